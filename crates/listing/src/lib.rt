@@ -1,0 +1,1 @@
+// No code: the crate holds the text of the listing.

@@ -1,0 +1,4 @@
+pub mod Bits
+pub mod Lookup
+pub mod Problem
+pub mod Record

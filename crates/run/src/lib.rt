@@ -1,0 +1,1 @@
+// No code: the crate holds the run that document 01 lays down.

@@ -1,0 +1,1 @@
+// No code: the crate holds the three demands on a deciding program.

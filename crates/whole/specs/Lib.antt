@@ -1,0 +1,2 @@
+pub mod Gcd
+pub mod Signed

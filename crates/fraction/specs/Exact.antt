@@ -1,7 +1,7 @@
 -- Exact fractions in lowest terms, and the operations on them.
 -- Main definitions: `ℚ`, `frac`, `value`, `_+ℚ_`, `_-ℚ_`, `_*ℚ_`, `_÷ℚ_`, `eqℚ`. Assumes nothing.
-use mathlib.Core.Path.{_≡_, refl, ap, _∙_}
-use mathlib.Core.Bool.{Bool, true, false, _&&_}
+use mathlib.Core.Path.{_≡_, ap, _∙_}
+use mathlib.Core.Bool.{Bool, false, _&&_}
 use Prim.Native.Nat.{ℕ, zero, suc, _*_, _/_, _<_}
 use native.Mathlib.Nat.{zero-lt-suc}
 use lib.IntN.{ℤ, pos, negsuc, negℤ, natAbs, _+ℤ_, _*ℤ_}

@@ -1,7 +1,7 @@
 -- The laws of the greatest common divisor.
 -- Main results: `gcd-divides-left`, `gcd-divides-right`, `gcd-greatest`, `gcd-lowered`. Assume nothing.
-use mathlib.Core.Path.{_≡_, refl, sym, ap, _∙_, subst}
-use Prim.Native.Nat.{ℕ, zero, suc, _+_, _*_, _/_, _%_, _∣_, _<_, _≤_, zero-le, suc-le-suc}
+use mathlib.Core.Path.{_≡_, sym, ap, _∙_, subst}
+use Prim.Native.Nat.{ℕ, zero, suc, _+_, _*_, _/_, _%_, _∣_, _<_, _≤_}
 use native.Mathlib.Nat.{
   dvd-refl,
   dvd-zero,

@@ -1,0 +1,4 @@
+pub mod Bounded
+pub mod Cross
+pub mod Equality
+pub mod Field

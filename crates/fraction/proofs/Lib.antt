@@ -2,3 +2,4 @@ pub mod Bounded
 pub mod Cross
 pub mod Equality
 pub mod Field
+pub mod Making

@@ -1,0 +1,59 @@
+-- Each contract leaves one answer.
+-- Main results: a law NAME-unique for each public function NAME. Assume nothing.
+use mathlib.Core.Path.{_≡_, sym, ap, _∙_}
+use Prim.Native.Nat.{ℕ, _^_}
+use native.Mathlib.Omega.{arith}
+use lib.IntN.{ℤ}
+use Rattle.fraction.specs.declared.Fraction.{Fraction}
+use Rattle.fraction.specs.Exact.{ℚ, frac, negℚ, value}
+use Rattle.fraction.specs.Made as rule
+use Rattle.fraction.specs.Limits.{plus, minus, times, over}
+use Rattle.fraction.specs.Made.{made, stopped}
+use Rattle.arithmetic.specs.Fields.{extended}
+use Rattle.arithmetic.specs.Values.{Good, Stands, says, Sound, Answers}
+use Rattle.arithmetic.specs.declared.Made.{Made}
+use Rattle.arithmetic.specs.declared.Made.the-variants.{Fits, Refused}
+use Rattle.arithmetic.proofs.Lowest.{value-one-to-one}
+
+made-one-to-one : {p q : ℚ} → _≡_ {A = rule.Made ℕ ℚ} (made p) (made q) → p ≡ q
+made-one-to-one e = cc
+
+refused-one-to-one : {k l : ℕ} → _≡_ {A = rule.Made ℕ ℚ} (stopped k) (stopped l) → k ≡ l
+refused-one-to-one e = cc
+
+never-both : {q : ℚ} {k : ℕ} → _≡_ {A = rule.Made ℕ ℚ} (made q) (stopped k) → ⊥
+never-both e = let z : _≡_ {A = ℕ} 0 1 = cc in omega arith
+
+pub says-one-to-one : (r s : Made) → Sound r → Sound s → says r ≡ says s → r ≡ s
+unfolding says Sound
+says-one-to-one (Fits f) (Fits g) p q e = ap Fits (value-one-to-one p q (made-one-to-one e))
+says-one-to-one (Fits f) (Refused k) p q e = absurd (never-both e)
+says-one-to-one (Refused k) (Fits g) p q e = absurd (never-both (sym e))
+says-one-to-one (Refused k) (Refused l) p q e = ap Refused (refused-one-to-one e)
+
+pub answers-unique : {r s : Made} {answer : rule.Made ℕ ℚ} → Answers r answer → Answers s answer → r ≡ s
+answers-unique {r} {s} p q = says-one-to-one r s (p .sound) (q .sound) (p .same ∙ sym (q .same))
+
+pub stands-unique : {f g : Fraction} {q : ℚ} → Stands f q → Stands g q → f ≡ g
+stands-unique p q = value-one-to-one (p .good) (q .good) (p .same ∙ sym (q .same))
+
+pub product-unique : (a b : Fraction) (r s : Made) → Answers r (times (value a) (value b)) → Answers s (times (value a) (value b)) → r ≡ s
+product-unique a b r s p q = answers-unique p q
+
+pub sum-unique : (a b : Fraction) (r s : Made) → Answers r (plus (value a) (value b)) → Answers s (plus (value a) (value b)) → r ≡ s
+sum-unique a b r s p q = answers-unique p q
+
+pub difference-unique : (a b : Fraction) (r s : Made) → Answers r (minus (value a) (value b)) → Answers s (minus (value a) (value b)) → r ≡ s
+difference-unique a b r s p q = answers-unique p q
+
+pub quotient-unique : (a b : Fraction) (r s : Made) → Answers r (over (value a) (value b)) → Answers s (over (value a) (value b)) → r ≡ s
+quotient-unique a b r s p q = answers-unique p q
+
+pub negated-unique : (a : Fraction) (f g : Fraction) → Stands f (negℚ (value a)) → Stands g (negℚ (value a)) → f ≡ g
+negated-unique a f g p q = stands-unique p q
+
+pub of-record-unique : (mantissa : ℤ) (shift : ℕ) (f g : Fraction) → Stands f (frac mantissa (2 ^ shift)) → Stands g (frac mantissa (2 ^ shift)) → f ≡ g
+of-record-unique mantissa shift f g p q = stands-unique p q
+
+pub signed16-unique : (x : ℕ) (r s : ℤ) → r ≡ extended x → s ≡ extended x → r ≡ s
+signed16-unique x r s p q = p ∙ sym q

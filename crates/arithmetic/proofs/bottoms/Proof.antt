@@ -1,0 +1,39 @@
+use Rattle.arithmetic.proofs.Operations.{good-den}
+use Rattle.arithmetic.proofs.Words.{kept, size-product}
+use mir.Facts.{toZ-ofZ}
+use mir.Syntax.{w64}
+use lib.IntN.{natAbs}
+use native.Mathlib.Nat.{mul-pos}
+use native.Mathlib.Omega.{arith}
+use mathlib.Core.Path.{ap, _∙_}
+use borrow.Author.Needs.{needs}
+use Rattle.arithmetic.proofs.bottoms.Statement.{statement}
+use Rattle.arithmetic.proofs.bottoms.Tie as tie
+use Rattle.arithmetic.proofs.bottoms.Reads as reads
+use Rattle.arithmetic.proofs.bottoms.Lts as lts
+use Rattle.arithmetic.proofs.signed.size_wide.Reads as size-wide-reads
+use Rattle.arithmetic.proofs.signed.times.Reads as times-reads
+
+-- src/lib.rt:30:10
+times-requires : tie.Need-times-requires
+times-requires c κs = search needs
+
+-- src/lib.rt:30:5
+size-wide-requires : tie.Need-size-wide-requires
+size-wide-requires c κs = rw (kept w64 (c .times .result) (c .times .ok)) (omega arith)
+
+-- src/lib.rt:24:1
+returns : tie.Need-returns
+returns c =
+    let start = c .before .before .before .before in
+    let times = c .before .times in
+    let p = start .pre .0 in
+    let q = start .pre .1 in
+    let dens = rw (toZ-ofZ (good-den p), toZ-ofZ (good-den q)) at (times .ensures .0) in
+    let is =
+    c .size-wide .ensures ∙ ap natAbs (kept w64 (times .result) (times .ok) ∙ dens) ∙ size-product (start .args .a .den) (start .args .b .den)
+    in
+    (is, rw is (mul-pos (p .least) (q .least)))
+
+pub bottoms-spec : {M : Type 1} → statement M
+bottoms-spec = tie.close (tie.spec times-requires size-wide-requires returns)

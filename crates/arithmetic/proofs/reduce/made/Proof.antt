@@ -1,0 +1,30 @@
+use Rattle.arithmetic.proofs.Words.{kept}
+use mir.Facts.{toZ-ofZ}
+use mir.Syntax.{w32}
+use mathlib.Core.Path.{_∙_}
+use borrow.Author.Needs.{needs}
+use Rattle.arithmetic.proofs.reduce.made.Statement.{statement}
+use Rattle.arithmetic.proofs.reduce.made.Tie as tie
+use Rattle.arithmetic.proofs.reduce.made.Reads as reads
+use Rattle.arithmetic.proofs.reduce.made.Lts as lts
+use Rattle.arithmetic.proofs.signed.narrow.Reads as narrow-reads
+use Rattle.arithmetic.proofs.signed.put_back.Reads as put-back-reads
+
+-- src/reduce.rt:46:14
+put-back-requires : tie.Need-put-back-requires
+put-back-requires c κs = search needs
+
+-- src/reduce.rt:47:14
+narrow-requires : tie.Need-narrow-requires
+narrow-requires c κs = search needs
+
+-- src/reduce.rt:40:1
+returns : tie.Need-returns
+returns c =
+    let start = c .before .before in (
+      kept w32 (c .before .put-back .result) (c .before .put-back .ok) ∙ (rw (toZ-ofZ (start .fits .like)) at (c .before .put-back .ensures)),
+      kept w32 (c .narrow .result) (c .narrow .ok) ∙ c .narrow .ensures,
+    )
+
+pub made-spec : {M : Type 1} → statement M
+made-spec = tie.close (tie.spec put-back-requires narrow-requires returns)

@@ -1,0 +1,18 @@
+use mir.Facts.{toZ-ofZ}
+use Rattle.arithmetic.proofs.Words.{fits-sum}
+use borrow.Author.Needs.{needs}
+use Rattle.arithmetic.proofs.signed.plus.Statement.{statement}
+use Rattle.arithmetic.proofs.signed.plus.Tie as tie
+use Rattle.arithmetic.proofs.signed.plus.Reads as reads
+use Rattle.arithmetic.proofs.signed.plus.Lts as lts
+
+-- src/signed.rt:27:5
+add-result : tie.Need-add-result
+add-result c = rw (toZ-ofZ (c .fits .a), toZ-ofZ (c .fits .b)) (fits-sum (c .args .a) (c .args .b) (c .pre .0) (c .pre .1))
+
+-- src/signed.rt:22:1
+returns : tie.Need-returns
+returns c = rw (toZ-ofZ (c .fits .a), toZ-ofZ (c .fits .b)) (toZ-ofZ (fits-sum (c .args .a) (c .args .b) (c .pre .0) (c .pre .1)))
+
+pub plus-spec : {M : Type 1} → statement M
+plus-spec = tie.close (tie.spec add-result returns)

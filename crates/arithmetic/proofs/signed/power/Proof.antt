@@ -1,0 +1,24 @@
+use lib.Pow.{pow-lt}
+use native.Mathlib.Nat.{one-mul, mod-eq-of-lt}
+use Prim.Native.Nat.{_%_, _^_, _<_}
+use native.Mathlib.Omega.{arith}
+use mathlib.Core.Path.{ap, _∙_}
+use borrow.Author.Needs.{needs}
+use Rattle.arithmetic.proofs.signed.power.Statement.{statement}
+use Rattle.arithmetic.proofs.signed.power.Tie as tie
+use Rattle.arithmetic.proofs.signed.power.Reads as reads
+use Rattle.arithmetic.proofs.signed.power.Lts as lts
+
+-- src/signed.rt:95:5
+shl-result : tie.Need-shl-result
+shl-result c = search needs
+
+-- src/signed.rt:91:1
+returns : tie.Need-returns
+returns c =
+    let shift = c .args .shift in
+    let below : 2 ^ shift < 2 ^ 64 = pow-lt {j = 64} (omega arith) in
+    ap (λ x. x % 2 ^ 64) (one-mul (2 ^ shift)) ∙ mod-eq-of-lt below
+
+pub power-spec : {M : Type 1} → statement M
+power-spec = tie.close (tie.spec shl-result returns)

@@ -1,0 +1,32 @@
+// Fractions in two lists of 32-bit numbers.
+use fraction::Fraction;
+ghost use mathlib.Core.Path.{_≡_};
+ghost use Prim.Native.Nat.{_+_, _*_, _<_, _≤_};
+ghost use lib.ListN.{length, set};
+ghost use Rattle.table.specs.Held.{heldAt};
+
+// A step that writes into the lists is done, or refused with a number.
+pub enum Step {
+    Done,
+    Refused(u8),
+}
+
+pub fn get(nums: &[i32], dens: &[i32], k: usize) -> Fraction
+    requires { ⌜ (k < length (now nums)) × (k < length (now dens)) ⌝ }
+    ensures { λ r. ⌜ r ≡ heldAt (now (nums .entry)) (now (dens .entry)) k ⌝ }
+{
+    Fraction {
+        num: nums[k],
+        den: dens[k],
+    }
+}
+
+pub fn put(nums: &mut [i32], dens: &mut [i32], k: usize, f: Fraction)
+    requires { ⌜ (k < length (now nums)) × (k < length (now dens)) ⌝ }
+    ensures { λ r. ⌜ (now (nums .exit) ≡ set (now (nums .entry)) k (f .num)) × (now (dens .exit) ≡ set (now (dens .entry)) k (f .den)) ⌝ }
+{
+    let n = f.num;
+    let d = f.den;
+    nums[k] = n;
+    dens[k] = d;
+}

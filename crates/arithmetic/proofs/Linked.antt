@@ -1,18 +1,18 @@
 -- The code's answer and the rule's: when a struct stands for an exact fraction, and what the test against the limits says.
 -- Main results: `stands`, `answers-fits`, `answers-wide`, `answers-deep`. Assume nothing.
-use mathlib.Core.Path.{_≡_, refl, sym, ap, ap₂, _∙_, subst}
 use mathlib.Core.Bool.{Bool, true, false, _&&_, cond}
-use Prim.Native.Nat.{ℕ, _<_, _≤_}
+use mathlib.Core.Path.{_≡_, refl, sym, ap, ap₂, _∙_}
+use Prim.Native.Nat.{_<_, _≤_}
 use native.Mathlib.Omega.{arith}
-use lib.IntN.{ℤ, pos, natAbs}
 use lib.Dec.{leb}
+use lib.IntN.{pos, natAbs}
 use borrow.Author.Tests.{le-leb, lt-leb}
 use Rattle.whole.specs.Gcd.{gcd}
-use Rattle.fraction.specs.declared.Fraction.{Fraction}
-use Rattle.fraction.specs.Exact.{ℚ, value}
+use Rattle.fraction.specs.Exact.{ℚ}
 use Rattle.fraction.specs.Limits.{limit, within, tested}
 use Rattle.fraction.specs.Made.{made, stopped}
 use Rattle.answer.specs.Refusals.{RANGE}
+use Rattle.fraction.specs.declared.Fraction.{Fraction}
 use Rattle.arithmetic.specs.Values.{Good, Stands, says, Sound, Answers}
 use Rattle.arithmetic.specs.declared.Made.the-variants.{Fits, Refused}
 use Rattle.arithmetic.proofs.Lowest.{ℚ-same, value-num, value-den}

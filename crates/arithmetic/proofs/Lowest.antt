@@ -1,17 +1,17 @@
 -- Fractions in lowest terms, as the code holds them.
--- Main results: `ℚ-same`, `frac-lowest`, `value-num`, `value-den`, `value-one-to-one`. Assume nothing.
-use mathlib.Core.Path.{_≡_, refl, sym, ap, ap₂, _∙_, subst}
+-- Main results: `ℚ-same`, `lowest-num`, `lowest-den`, `value-num`, `value-den`, `value-one-to-one`. Assume nothing.
 use mathlib.Core.HLevel.{isProp→PathP}
-use Prim.Native.Nat.{ℕ, zero, suc, _/_, _<_, _≤_}
-use native.Mathlib.Nat.{ℕ-set, div-one}
+use mathlib.Core.Path.{_≡_, refl, sym, ap, _∙_}
+use Prim.Native.Nat.{ℕ, zero, suc, _/_, _<_}
 use native.Mathlib.Bridge.{le-prop}
+use native.Mathlib.Nat.{ℕ-set, div-one}
 use native.Mathlib.Omega.{arith}
 use lib.IntN.{ℤ, pos, negsuc, natAbs}
 use Rattle.whole.specs.Gcd.{gcd}
 use Rattle.whole.specs.Signed.{signed}
 use Rattle.whole.proofs.Sizes.{size-signed}
-use Rattle.fraction.specs.declared.Fraction.{Fraction}
 use Rattle.fraction.specs.Exact.{ℚ, frac, value}
+use Rattle.fraction.specs.declared.Fraction.{Fraction}
 use Rattle.arithmetic.specs.Values.{Good}
 
 -- Exact fractions with the same two numbers are the same.
@@ -24,6 +24,7 @@ pub ℚ-same : {p q : ℚ} → p .num ≡ q .num → p .den ≡ q .den → p ≡
       lowest = isProp→PathP (λ j. gcd (natAbs (n j)) (d j) ≡ 1) (λ j. ℕ-set (gcd (natAbs (n j)) (d j)) 1) (p .lowest) (q .lowest) i;
     }
 
+-- the two numbers of n / d
 pub frac-num : (n : ℤ) (d : ℕ) → 0 < d → frac n d .num ≡ signed n (natAbs n / gcd (natAbs n) d)
 unfolding frac
 frac-num n zero h = absurd (omega arith)
@@ -49,6 +50,7 @@ lowest-num n d h e = frac-num n d h ∙ ap (λ g. signed n (natAbs n / g)) e ∙
 pub lowest-den : (n : ℤ) (d : ℕ) → 0 < d → gcd (natAbs n) d ≡ 1 → frac n d .den ≡ d
 lowest-den n d h e = frac-den n d h ∙ ap (λ g. d / g) e ∙ div-one d
 
+-- The exact fraction of a good struct has the struct's own two numbers.
 pub value-num : {f : Fraction} → Good f → value f .num ≡ f .num
 unfolding value
 value-num {f} good = lowest-num (f .num) (natAbs (f .den)) (good .least) (good .lowest)

@@ -1,24 +1,25 @@
 -- The operations on good structs, and the rule's on their exact fractions.
 -- Main results: `times-is`, `plus-is`, `negated-is`, `inverse-is`, `inverse-zero`, `lowest-stands`. Assume nothing.
-use mathlib.Core.Path.{_≡_, refl, sym, ap, ap₂, _∙_, subst}
-use Prim.Native.Nat.{ℕ, zero, suc, _*_, _/_, _^_, _<_, _≤_, _∣_}
+use mathlib.Core.Path.{_≡_, sym, ap, ap₂, _∙_, subst}
+use Prim.Native.Nat.{ℕ, _*_, _/_, _^_, _<_, _≤_, _∣_}
 use native.Mathlib.Nat.{mul-one, mul-le-mul, eq-one-of-dvd-one, div-le-self}
 use native.Mathlib.Omega.{arith}
-use lib.IntN.{ℤ, pos, negsuc, negℤ, natAbs, _+ℤ_, _*ℤ_}
+use lib.IntN.{ℤ, pos, negℤ, natAbs, _+ℤ_, _*ℤ_}
 use mir.Syntax.{w32}
 use mir.Val.{SFits}
 use Rattle.whole.specs.Gcd.{gcd}
 use Rattle.whole.specs.Signed.{signed}
 use Rattle.whole.proofs.Divisors.{gcd-divides-left, gcd-divides-right, gcd-greatest}
 use Rattle.whole.proofs.Sizes.{size-negated, size-signed}
-use Rattle.fraction.specs.declared.Fraction.{Fraction}
-use Rattle.fraction.specs.Exact.{ℚ, frac, whole, zeroℚ, negℚ, inverse, _+ℚ_, _*ℚ_, value}
+use Rattle.fraction.specs.Exact.{frac, whole, zeroℚ, negℚ, inverse, _+ℚ_, _*ℚ_, value}
 use Rattle.fraction.specs.Limits.{limit, tested, plus, times}
+use Rattle.fraction.specs.declared.Fraction.{Fraction}
 use Rattle.arithmetic.specs.Values.{Good, Stands}
-use Rattle.arithmetic.proofs.Words.{fits-size, size-product}
-use Rattle.arithmetic.proofs.Lowest.{frac-num, frac-den, frac-size, lowest-num, lowest-den, value-num, value-den}
 use Rattle.arithmetic.proofs.Linked.{stands}
+use Rattle.arithmetic.proofs.Lowest.{frac-num, frac-den, frac-size, lowest-num, lowest-den, value-num, value-den}
+use Rattle.arithmetic.proofs.Words.{fits-size, size-product}
 
+-- a word of 32 bits holds the numbers of a good struct
 pub good-num : {f : Fraction} → Good f → SFits w32 (f .num)
 unfolding limit
 good-num {f} good = fits-size w32 (f .num) (omega arith)
@@ -38,6 +39,7 @@ product-below x y h k =
 den-is : {f : Fraction} → Good f → pos (value f .den) ≡ f .den
 den-is good = ap pos (value-den good) ∙ sym (good .upward)
 
+-- What the rule makes of two good structs, from the structs' own numbers.
 pub times-is : {a b : Fraction} {n : ℤ} {d : ℕ} → Good a → Good b → n ≡ a .num *ℤ b .num → d ≡ natAbs (a .den) * natAbs (b .den) → tested (frac n d) ≡ times (value a) (value b)
 unfolding times _*ℚ_
 times-is p q n d =
@@ -51,6 +53,7 @@ plus-is p q n d =
     (n ∙ sym (ap₂ _+ℤ_ (ap₂ _*ℤ_ (value-num p) (den-is q)) (ap₂ _*ℤ_ (value-num q) (den-is p))))
     (d ∙ sym (ap₂ _*_ (value-den p) (value-den q))))
 
+-- A struct with the opposite numerator stands for the opposite.
 pub negated-is : {a f : Fraction} → Good a → f .num ≡ negℤ (a .num) → f .den ≡ a .den → Stands f (negℚ (value a))
 unfolding negℚ
 negated-is {a} good n d =
@@ -66,6 +69,7 @@ coprime-other a b e =
     in
     eq-one-of-dvd-one (subst (λ x. gcd b a ∣ x) (mul-one (gcd a b) ∙ e) both)
 
+-- A struct with the two numbers exchanged, and the sign kept above, stands for the inverse.
 pub inverse-is : {a f : Fraction} → Good a → 0 < natAbs (a .num) → f .num ≡ signed (a .num) (natAbs (a .den)) → f .den ≡ pos (natAbs (a .num)) → Stands f (inverse (value a))
 unfolding inverse
 inverse-is {a} good above n d =
@@ -81,6 +85,7 @@ inverse-is {a} good above n d =
     rw v (stands (frac (signed (a .num) (natAbs (a .den))) (natAbs (a .num))) (n ∙ sym num) (d ∙ ap pos (sym den))
     (omega (arith, ap natAbs num)) (omega arith))
 
+-- The rule's inverse of 0 is 0/1.
 pub inverse-zero : {a f : Fraction} → Good a → natAbs (a .num) ≡ 0 → f .num ≡ pos 0 → f .den ≡ pos 1 → Stands f (inverse (value a))
 unfolding inverse frac zeroℚ whole limit
 inverse-zero {a} good none n d =

@@ -1,26 +1,26 @@
 -- Where no greatest common divisor is needed: zero, one, minus one, and numbers that are in lowest terms as they stand.
 -- Main results: `answers-lowest`, `times-nothing`, `times-one`, `times-minus`, `plus-nothing`, `times-comm`, `plus-comm`. Assume nothing.
 use mathlib.Core.Path.{_≡_, refl, sym, ap, ap₂, _∙_, subst}
-use Prim.Native.Nat.{ℕ, zero, suc, _*_, _/_, _^_, _<_, _≤_}
+use Prim.Native.Nat.{ℕ, suc, _*_, _/_, _^_, _<_, _≤_}
 use native.Mathlib.Nat.{mul-one, one-mul, mul-comm, zero-mod, zero-div, div-self}
 use native.Mathlib.Omega.{arith}
-use lib.IntN.{ℤ, pos, negsuc, negℤ, natAbs, _+ℤ_, _*ℤ_, +ℤ-idl, +ℤ-comm, zero-*ℤ, *ℤ-comm, *ℤ-negsuc}
 use lib.Dec.{T, ltb}
+use lib.IntN.{ℤ, pos, negsuc, negℤ, natAbs, _+ℤ_, _*ℤ_, +ℤ-idl, +ℤ-comm, zero-*ℤ, *ℤ-comm, *ℤ-negsuc}
 use lib.Signed.{mag}
+use mir.Facts.{toZ-ofZ, sfits-lit}
 use mir.Syntax.{w32}
 use mir.Val.{SFits, toZ, ofZ}
-use mir.Facts.{toZ-ofZ, sfits-lit}
 use Rattle.whole.specs.Gcd.{gcd}
 use Rattle.whole.specs.Signed.{signed}
-use Rattle.fraction.specs.declared.Fraction.{Fraction}
 use Rattle.fraction.specs.Exact.{ℚ, frac, negℚ, _+ℚ_, _*ℚ_, value}
 use Rattle.fraction.specs.Limits.{limit, tested, plus, times}
+use Rattle.fraction.specs.declared.Fraction.{Fraction}
 use Rattle.arithmetic.specs.Values.{Good, Stands, Answers}
-use Rattle.arithmetic.specs.declared.Made.the-variants.{Fits, Refused}
-use Rattle.arithmetic.proofs.Steps.{gcd-stops, gcd-step}
-use Rattle.arithmetic.proofs.Lowest.{frac-num, frac-den, lowest-num, lowest-den, value-num, value-den}
+use Rattle.arithmetic.specs.declared.Made.the-variants.{Fits}
 use Rattle.arithmetic.proofs.Linked.{answers-fits}
+use Rattle.arithmetic.proofs.Lowest.{frac-num, frac-den, lowest-num, lowest-den, value-num, value-den}
 use Rattle.arithmetic.proofs.Operations.{times-is, plus-is}
+use Rattle.arithmetic.proofs.Steps.{gcd-stops, gcd-step}
 
 -- A word of 32 bits that has the bits of a constant is that constant.
 pub word-is : {x : ℤ} (k : ℤ) → T (ltb (mag k) (2 ^ 31)) → SFits w32 x → ofZ w32 x ≡ ofZ w32 k → x ≡ k

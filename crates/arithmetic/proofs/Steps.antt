@@ -16,10 +16,12 @@ turns-enough (suc t) (suc u) a (suc b) h k =
     let falls : a % suc b < suc b = mod-lt a (omega arith) in
     turns-enough t u (suc b) (a % suc b) (omega arith) (omega arith)
 
+-- Nothing is left to divide by: the first number is the greatest common divisor.
 pub gcd-stops : (a : ℕ) → gcd a 0 ≡ a
 unfolding gcd euclid
 gcd-stops a = refl
 
+-- The greatest common divisor stays when the first number gives way to its remainder.
 pub gcd-step : (a b : ℕ) → 0 < b → gcd a b ≡ gcd b (a % b)
 unfolding gcd euclid
 gcd-step a zero h = absurd (omega arith)

@@ -4,15 +4,15 @@ use mathlib.Core.Path.{_≡_, sym, ap, _∙_}
 use Prim.Native.Nat.{ℕ, _^_}
 use native.Mathlib.Omega.{arith}
 use lib.IntN.{ℤ}
-use Rattle.fraction.specs.declared.Fraction.{Fraction}
 use Rattle.fraction.specs.Exact.{ℚ, frac, negℚ, value}
 use Rattle.fraction.specs.Made as rule
 use Rattle.fraction.specs.Limits.{plus, minus, times, over}
 use Rattle.fraction.specs.Made.{made, stopped}
+use Rattle.fraction.specs.declared.Fraction.{Fraction}
 use Rattle.arithmetic.specs.Fields.{extended}
-use Rattle.arithmetic.specs.Values.{Good, Stands, says, Sound, Answers}
-use Rattle.arithmetic.specs.declared.Made.{Made}
+use Rattle.arithmetic.specs.Values.{Stands, says, Sound, Answers}
 use Rattle.arithmetic.specs.declared.Made.the-variants.{Fits, Refused}
+use Rattle.arithmetic.specs.declared.Made.{Made}
 use Rattle.arithmetic.proofs.Lowest.{value-one-to-one}
 
 made-one-to-one : {p q : ℚ} → _≡_ {A = rule.Made ℕ ℚ} (made p) (made q) → p ≡ q

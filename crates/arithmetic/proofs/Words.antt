@@ -1,16 +1,16 @@
 -- What signed words hold: sizes of sums and products, and when a result fits.
 -- Main results: `fits-sum`, `fits-product`, `fits-opposite`, `below-zero`, `signed-below`, `signed-upward`. Assume nothing.
-use mathlib.Core.Path.{_≡_, refl, sym, ap, _∙_, subst}
 use mathlib.Core.Bool.{Bool, true, false, not, cond}
-use Prim.Native.Nat.{ℕ, zero, suc, _+_, _-_, _*_, _^_, _<_, _≤_}
+use mathlib.Core.Path.{_≡_, refl, sym, ap, _∙_, subst}
+use Prim.Native.Nat.{ℕ, suc, _+_, _-_, _*_, _^_, _<_, _≤_}
 use native.Mathlib.Nat.{mul-le-mul}
 use native.Mathlib.Omega.{arith}
-use lib.IntN.{ℤ, pos, negsuc, negℤ, natAbs, subℕ, _+ℤ_, _-ℤ_, _*ℤ_, +ℤ-idl}
-use lib.Signed.{mag, ltZ, nonNeg}
 use lib.Dec.{T, ltb}
+use lib.IntN.{ℤ, pos, negsuc, negℤ, natAbs, _+ℤ_, _-ℤ_, _*ℤ_, +ℤ-idl}
+use lib.Signed.{mag, ltZ, nonNeg}
 use borrow.Author.Tests.{le-ltb, ltb-true, ltb-false}
-use mir.Syntax.{Width, w32, w64}
 use mir.Facts.{toZ-ofZ}
+use mir.Syntax.{Width, w32, w64}
 use mir.Val.{Fits, SFits, hbits, toZ, ofZ}
 use Rattle.whole.specs.Signed.{signed}
 use Rattle.whole.proofs.Sizes.{size-negated}
@@ -42,6 +42,7 @@ size-product (pos a) (negsuc b) = size-negated (pos (a * suc b))
 size-product (negsuc a) (pos b) = size-negated (pos (suc a * b))
 size-product (negsuc a) (negsuc b) = refl
 
+-- a number whose size is below half the word's range fits
 pub fits-size : (w : Width) (z : ℤ) → natAbs z < 2 ^ hbits w → SFits w z
 fits-size w z h = let within = mag-within z in record { sfits = omega arith }
 
@@ -49,6 +50,7 @@ fits-size w z h = let within = mag-within z in record { sfits = omega arith }
 pub size-word : {z : ℤ} → SFits w32 z → natAbs z ≤ 2 ^ 31
 size-word {z} h = let bound = h .sfits in omega (arith, size-within z)
 
+-- A sum of two numbers below 2^62, and a product of two words of 32 bits, fit 64 bits.
 pub fits-sum : (a b : ℤ) → natAbs a < 2 ^ 62 → natAbs b < 2 ^ 62 → SFits w64 (a +ℤ b)
 fits-sum a b h k = fits-size w64 (a +ℤ b) (omega (arith, size-sum a b))
 
@@ -66,6 +68,7 @@ opposite-is z = +ℤ-idl (negℤ z)
 pub fits-opposite : (w : Width) (z : ℤ) → natAbs z < 2 ^ hbits w → SFits w (pos 0 -ℤ z)
 fits-opposite w z h = subst (λ x. SFits w x) (sym (opposite-is z)) (fits-size w (negℤ z) (omega (arith, size-negated z)))
 
+-- the machine's test against 0
 pub below-zero : (z : ℤ) → ltZ z (pos 0) ≡ not (nonNeg z)
 below-zero (pos n) = le-ltb n 0 (omega arith)
 below-zero (negsuc n) = refl

@@ -2,8 +2,8 @@
 -- Main definition: `extended`. Assumes nothing.
 use mathlib.Core.Bool.{cond}
 use Prim.Native.Nat.{ℕ}
-use lib.IntN.{ℤ, pos, _-ℤ_}
 use lib.Dec.{ltb}
+use lib.IntN.{ℤ, pos, _-ℤ_}
 
 -- 16 bits in two's complement, as the number they stand for
 unfoldable pub extended : ℕ → ℤ

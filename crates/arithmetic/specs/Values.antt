@@ -2,14 +2,14 @@
 -- Main definitions: `Good`, `Stands`, `says`, `Answers`. Assumes nothing.
 use mathlib.Core.Path.{_≡_}
 use Prim.Native.Nat.{ℕ, _≤_}
-use lib.IntN.{ℤ, pos, natAbs}
+use lib.IntN.{pos, natAbs}
 use Rattle.whole.specs.Gcd.{gcd}
-use Rattle.fraction.specs.declared.Fraction.{Fraction}
 use Rattle.fraction.specs.Exact.{ℚ, value}
 use Rattle.fraction.specs.Made as rule
 use Rattle.fraction.specs.Limits.{limit}
-use Rattle.arithmetic.specs.declared.Made.{Made}
+use Rattle.fraction.specs.declared.Fraction.{Fraction}
 use Rattle.arithmetic.specs.declared.Made.the-variants.{Fits, Refused}
+use Rattle.arithmetic.specs.declared.Made.{Made}
 
 -- 01, The run: "Numerators lie within -2,147,483,647 to 2,147,483,647, denominators within 1 to 2,147,483,647", in lowest terms
 pub record Good (f : Fraction) : Type 0 where

@@ -53,6 +53,7 @@ fn cross(a: Fraction, b: Fraction) -> i64
     signed::plus(signed::times(a.num, b.den), signed::times(b.num, a.den))
 }
 
+// Any two factors.
 fn product_plain(a: Fraction, b: Fraction) -> Made
     requires { ⌜ Good a ⌝ }
     requires { ⌜ Good b ⌝ }
@@ -61,7 +62,7 @@ fn product_plain(a: Fraction, b: Fraction) -> Made
     reduced(signed::times(a.num, b.num), bottoms(a, b))
 }
 
-// Times 1 and times -1 need no gcd.
+// A whole number times a fraction: times 1 and times -1 need no gcd.
 fn product_whole(a: Fraction, b: Fraction) -> Made
     requires { ⌜ Good a ⌝ }
     requires { ⌜ Good b ⌝ }
@@ -77,6 +78,7 @@ fn product_whole(a: Fraction, b: Fraction) -> Made
     product_plain(a, b)
 }
 
+// a times b. The tests before the last line only save the gcd: they answer what the plain product would.
 pub fn product(a: Fraction, b: Fraction) -> Made
     requires { ⌜ Good a ⌝ }
     requires { ⌜ Good b ⌝ }
@@ -97,6 +99,7 @@ pub fn product(a: Fraction, b: Fraction) -> Made
     product_plain(a, b)
 }
 
+// Any two summands.
 fn sum_plain(a: Fraction, b: Fraction) -> Made
     requires { ⌜ Good a ⌝ }
     requires { ⌜ Good b ⌝ }
@@ -105,6 +108,7 @@ fn sum_plain(a: Fraction, b: Fraction) -> Made
     reduced(cross(a, b), bottoms(a, b))
 }
 
+// a plus b. To add 0 needs no gcd.
 pub fn sum(a: Fraction, b: Fraction) -> Made
     requires { ⌜ Good a ⌝ }
     requires { ⌜ Good b ⌝ }
@@ -130,6 +134,7 @@ pub fn negated(a: Fraction) -> Fraction
     }
 }
 
+// a minus b.
 pub fn difference(a: Fraction, b: Fraction) -> Made
     requires { ⌜ Good a ⌝ }
     requires { ⌜ Good b ⌝ }
@@ -150,6 +155,7 @@ fn inverted(a: Fraction) -> Fraction
     made(wide(a.num), size(a.den), bottom)
 }
 
+// a over b, with b's sign; 0 where b is 0, as the rule has it.
 pub fn quotient(a: Fraction, b: Fraction) -> Made
     requires { ⌜ Good a ⌝ }
     requires { ⌜ Good b ⌝ }

@@ -20,12 +20,13 @@ const LIMIT: u64 = 2147483647;
 // 01, What comes back: 7 RANGE.
 const RANGE: u8 = 7;
 
-// Two sizes without a common divisor but 1.
+// Two sizes with no common divisor but 1.
 pub struct Terms {
     pub top: u64,
     pub bottom: u64,
 }
 
+// Two sizes divided by their greatest common divisor.
 pub fn lowest(top: u64, bottom: u64) -> Terms
     requires { ⌜ 0 < bottom ⌝ }
     ensures { λ r. ⌜ (r .top ≡ top / gcd top bottom) × (r .bottom ≡ bottom / gcd top bottom) ⌝ }

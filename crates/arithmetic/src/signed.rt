@@ -6,6 +6,7 @@ ghost use lib.IntN.{_+ℤ_, _*ℤ_, negℤ, natAbs, pos};
 ghost use lib.Signed.{nonNeg};
 ghost use Rattle.whole.specs.Signed.{signed};
 
+// The same number in 64 bits.
 pub fn wide(a: i32) -> i64
     ensures { λ r. ⌜ r ≡ a ⌝ }
 {
@@ -20,6 +21,7 @@ pub fn times(a: i32, b: i32) -> i64
     wide(a) * wide(b)
 }
 
+// The bounds leave room for the sum: two products of numbers within the limits meet them.
 pub fn plus(a: i64, b: i64) -> i64
     requires { ⌜ natAbs a < 2 ^ 62 ⌝ }
     requires { ⌜ natAbs b < 2 ^ 62 ⌝ }
@@ -44,12 +46,14 @@ pub fn opposite_wide(a: i64) -> i64
     -a
 }
 
+// Whether a sign is to be put back.
 pub fn negative(a: i64) -> bool
     ensures { λ r. ⌜ r ≡ not (nonNeg a) ⌝ }
 {
     a < 0
 }
 
+// How far a number is from 0: what gcd, reduction and limits go by.
 pub fn size_wide(a: i64) -> u64
     requires { ⌜ natAbs a < 2 ^ 63 ⌝ }
     ensures { λ r. ⌜ r ≡ natAbs a ⌝ }
@@ -61,6 +65,7 @@ pub fn size_wide(a: i64) -> u64
     }
 }
 
+// The same at 32 bits, where every number has a size that fits.
 pub fn size(a: i32) -> u64
     ensures { λ r. ⌜ r ≡ natAbs a ⌝ }
 {

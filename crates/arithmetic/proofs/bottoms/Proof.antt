@@ -1,28 +1,23 @@
-use Rattle.arithmetic.proofs.Operations.{good-den}
-use Rattle.arithmetic.proofs.Words.{kept, size-product}
-use mir.Facts.{toZ-ofZ}
-use mir.Syntax.{w64}
-use lib.IntN.{natAbs}
+-- `arithmetic::bottoms` meets its contract: the size of a product is the product of the sizes.
+-- Assumes nothing.
+use mathlib.Core.Path.{ap, _∙_}
 use native.Mathlib.Nat.{mul-pos}
 use native.Mathlib.Omega.{arith}
-use mathlib.Core.Path.{ap, _∙_}
+use lib.IntN.{natAbs}
 use borrow.Author.Needs.{needs}
+use mir.Facts.{toZ-ofZ}
+use mir.Syntax.{w64}
+use Rattle.arithmetic.proofs.Operations.{good-den}
+use Rattle.arithmetic.proofs.Words.{kept, size-product}
 use Rattle.arithmetic.proofs.bottoms.Statement.{statement}
 use Rattle.arithmetic.proofs.bottoms.Tie as tie
-use Rattle.arithmetic.proofs.bottoms.Reads as reads
-use Rattle.arithmetic.proofs.bottoms.Lts as lts
-use Rattle.arithmetic.proofs.signed.size_wide.Reads as size-wide-reads
-use Rattle.arithmetic.proofs.signed.times.Reads as times-reads
 
--- src/lib.rt:30:10
 times-requires : tie.Need-times-requires
 times-requires c κs = search needs
 
--- src/lib.rt:30:5
 size-wide-requires : tie.Need-size-wide-requires
 size-wide-requires c κs = rw (kept w64 (c .times .result) (c .times .ok)) (omega arith)
 
--- src/lib.rt:24:1
 returns : tie.Need-returns
 returns c =
     let start = c .before .before .before .before in

@@ -1,24 +1,20 @@
+-- `arithmetic::cross` meets its contract: within the limits each product is below 2^62, so that their sum fits.
+-- Assumes nothing.
+use mathlib.Core.Path.{_≡_, ap₂, _∙_}
+use native.Mathlib.Omega.{arith}
+use lib.IntN.{_+ℤ_, _*ℤ_}
+use borrow.Author.Needs.{needs}
+use mir.Facts.{toZ-ofZ}
+use mir.Syntax.{w64}
+use mir.Val.{toZ, ofZ}
 use Rattle.arithmetic.proofs.Operations.{good-num, good-den, product-below}
 use Rattle.arithmetic.proofs.Words.{kept, size-sum}
-use mir.Facts.{toZ-ofZ}
-use mir.Val.{toZ, ofZ}
-use mir.Syntax.{w64}
-use lib.IntN.{_+ℤ_, _*ℤ_}
-use native.Mathlib.Omega.{arith}
-use mathlib.Core.Path.{_≡_, ap₂, _∙_}
-use borrow.Author.Needs.{needs}
 use Rattle.arithmetic.proofs.cross.Statement.{statement}
 use Rattle.arithmetic.proofs.cross.Tie as tie
-use Rattle.arithmetic.proofs.cross.Reads as reads
-use Rattle.arithmetic.proofs.cross.Lts as lts
-use Rattle.arithmetic.proofs.signed.plus.Reads as plus-reads
-use Rattle.arithmetic.proofs.signed.times.Reads as times-reads
 
--- src/lib.rt:40:18
 times-requires : tie.Need-times-requires
 times-requires c κs = search needs
 
--- src/lib.rt:40:47
 times-requires-2 : tie.Need-times-requires-2
 times-requires-2 c κs = search needs
 
@@ -33,7 +29,6 @@ second-is c =
     let pre = c .before .before .before .before .before .before .pre in
     kept w64 (c .times2 .result) (c .times2 .ok) ∙ (rw (toZ-ofZ (good-num (pre .1)), toZ-ofZ (good-den (pre .0))) at (c .times2 .ensures .0))
 
--- src/lib.rt:40:5
 plus-requires : tie.Need-plus-requires
 plus-requires c κs =
     let start = c .before .before .before .before .before .before in
@@ -43,7 +38,6 @@ plus-requires c κs =
     let q = start .pre .1 in
     (rw (first-is (c .before .before .before)) (product-below (a .num) (b .den) (p .above) (q .below)), rw (second-is c) (product-below (b .num) (a .den) (q .above) (p .below)))
 
--- src/lib.rt:34:1
 returns : tie.Need-returns
 returns c =
     let start = c .before .before .before .before .before .before .before in

@@ -1,22 +1,18 @@
-use Rattle.arithmetic.proofs.Operations.{good-num, good-den, inverse-is, inverse-zero}
-use Rattle.arithmetic.proofs.Words.{read-back}
-use Rattle.fraction.specs.Limits.{limit}
-use Rattle.whole.specs.Signed.{signed}
+-- `arithmetic::inverted` meets its contract: upside down, a fraction in lowest terms stays in lowest terms.
+-- Assumes nothing.
+use mathlib.Core.Path.{_≡_, sym, ap, ap₂, _∙_}
+use native.Mathlib.Omega.{arith}
+use lib.IntN.{pos, natAbs}
+use borrow.Author.Needs.{needs}
 use mir.Facts.{toZ-ofZ, sfits-widen}
 use mir.Syntax.{w64}
-use lib.IntN.{pos, natAbs}
-use native.Mathlib.Omega.{arith}
-use mathlib.Core.Path.{_≡_, refl, sym, ap, ap₂, _∙_}
-use borrow.Author.Needs.{needs}
+use Rattle.whole.specs.Signed.{signed}
+use Rattle.fraction.specs.Limits.{limit}
+use Rattle.arithmetic.proofs.Operations.{good-num, good-den, inverse-is, inverse-zero}
+use Rattle.arithmetic.proofs.Words.{read-back}
 use Rattle.arithmetic.proofs.inverted.Statement.{statement}
 use Rattle.arithmetic.proofs.inverted.Tie as tie
-use Rattle.arithmetic.proofs.inverted.Reads as reads
-use Rattle.arithmetic.proofs.inverted.Lts as lts
-use Rattle.arithmetic.proofs.reduce.made.Reads as made-reads
-use Rattle.arithmetic.proofs.signed.size.Reads as size-reads
-use Rattle.arithmetic.proofs.signed.wide.Reads as wide-reads
 
--- src/lib.rt:83:9
 size-requires : tie.Need-size-requires
 size-requires c κs = search needs
 
@@ -27,27 +23,22 @@ size-is c = c .size .ensures ∙ ap natAbs (toZ-ofZ (good-num (c .before .before
 size2-is : (c : tie.After-size2) → c .size2 .result ≡ natAbs (c .before .before .before .before .before .before .before .args .a .den)
 size2-is c = c .size2 .ensures ∙ ap natAbs (toZ-ofZ (good-den (c .before .before .before .before .before .before .before .pre)))
 
--- src/lib.rt:85:9
 zero-requires : tie.Need-zero-requires
 zero-requires c κs = search needs
 
 returns : tie.Need-returns
 returns c = inverse-zero (c .before .before .before .before .pre) (sym (size-is (c .before .before)) ∙ c .before .if1 .taken) (c .zero .ensures .0) (c .zero .ensures .1)
 
--- src/lib.rt:87:10
 wide-requires : tie.Need-wide-requires
 wide-requires c κs = search needs
 
--- src/lib.rt:87:23
 size-requires-2 : tie.Need-size-requires-2
 size-requires-2 c κs = search needs
 
--- src/lib.rt:87:5
 made-requires : tie.Need-made-requires
 unfolding limit
 made-requires c κs = omega (arith, size-is (c .before .before .before .before .before), size2-is c, c .before .before .before .before .before .before .before .pre)
 
--- src/lib.rt:79:1
 returns-2 : tie.Need-returns-2
 returns-2 c =
     let start = c .before .before .before .before .before .before .before .before in

@@ -1,22 +1,19 @@
-use Rattle.arithmetic.proofs.Operations.{good-num, good-den, negated-is}
-use Rattle.arithmetic.proofs.Words.{kept}
-use Rattle.fraction.specs.Limits.{limit}
+-- `arithmetic::negated` meets its contract: the opposite has the same size, so it is within the limits too.
+-- Assumes nothing.
+use mathlib.Core.Path.{_∙_}
+use native.Mathlib.Omega.{arith}
 use mir.Facts.{toZ-ofZ}
 use mir.Syntax.{w32}
-use native.Mathlib.Omega.{arith}
-use mathlib.Core.Path.{_∙_}
+use Rattle.fraction.specs.Limits.{limit}
+use Rattle.arithmetic.proofs.Operations.{good-num, good-den, negated-is}
+use Rattle.arithmetic.proofs.Words.{kept}
 use Rattle.arithmetic.proofs.negated.Statement.{statement}
 use Rattle.arithmetic.proofs.negated.Tie as tie
-use Rattle.arithmetic.proofs.negated.Reads as reads
-use Rattle.arithmetic.proofs.negated.Lts as lts
-use Rattle.arithmetic.proofs.signed.opposite.Reads as opposite-reads
 
--- src/lib.rt:65:14
 opposite-requires : tie.Need-opposite-requires
 unfolding limit
 opposite-requires c κs = rw (toZ-ofZ (good-num (c .before .pre))) (omega arith)
 
--- src/lib.rt:60:1
 returns : tie.Need-returns
 returns c =
     let good = c .before .before .before .pre in

@@ -1,40 +1,31 @@
-use Rattle.arithmetic.proofs.Operations.{lowest-stands}
-use Rattle.arithmetic.proofs.Words.{read-back}
-use Rattle.fraction.specs.Limits.{limit}
-use Rattle.whole.specs.Signed.{signed}
-use Rattle.whole.specs.Gcd.{gcd}
-use mir.Facts.{toZ-ofZ, sfits-widen}
-use mir.Syntax.{w64}
+-- `arithmetic::of_record` meets its contract: both numbers are at most 32,768, before and after they are divided.
+-- Assumes nothing.
+use mathlib.Core.Path.{_≡_, ap, ap₂, _∙_}
+use Prim.Native.Nat.{_/_, _^_}
+use native.Mathlib.Nat.{div-le-self, pow-le-pow-right}
+use native.Mathlib.Omega.{arith}
 use lib.IntN.{pos, natAbs}
 use lib.Pow.{pow-pos}
-use native.Mathlib.Nat.{div-le-self, pow-le-pow-right}
-use Prim.Native.Nat.{_/_, _^_}
-use native.Mathlib.Omega.{arith}
-use mathlib.Core.Path.{_≡_, ap, ap₂, _∙_}
 use borrow.Author.Needs.{needs}
+use mir.Facts.{toZ-ofZ, sfits-widen}
+use mir.Syntax.{w64}
+use Rattle.whole.specs.Gcd.{gcd}
+use Rattle.whole.specs.Signed.{signed}
+use Rattle.fraction.specs.Limits.{limit}
+use Rattle.arithmetic.proofs.Operations.{lowest-stands}
+use Rattle.arithmetic.proofs.Words.{read-back}
 use Rattle.arithmetic.proofs.of_record.Statement.{statement}
 use Rattle.arithmetic.proofs.of_record.Tie as tie
-use Rattle.arithmetic.proofs.of_record.Reads as reads
-use Rattle.arithmetic.proofs.of_record.Lts as lts
-use Rattle.arithmetic.proofs.reduce.lowest.Reads as lowest-reads
-use Rattle.arithmetic.proofs.reduce.made.Reads as made-reads
-use Rattle.arithmetic.proofs.signed.power.Reads as power-reads
-use Rattle.arithmetic.proofs.signed.size.Reads as size-reads
-use Rattle.arithmetic.proofs.signed.wide.Reads as wide-reads
 
--- src/lib.rt:104:24
 size-requires : tie.Need-size-requires
 size-requires c κs = search needs
 
--- src/lib.rt:104:40
 power-requires : tie.Need-power-requires
 power-requires c κs = search needs
 
--- src/lib.rt:104:9
 lowest-requires : tie.Need-lowest-requires
 lowest-requires c κs = rw (c .power .ensures) (pow-pos (c .before .before .args .shift))
 
--- src/lib.rt:105:10
 wide-requires : tie.Need-wide-requires
 wide-requires c κs = search needs
 
@@ -48,7 +39,6 @@ top-is c = c .lowest .ensures .0 ∙ ap₂ (λ x y. x / gcd x y) (size-is (c .be
 bottom-is : (c : tie.After-lowest) → c .lowest .result .bottom ≡ 2 ^ c .before .before .before .args .shift / gcd (natAbs (c .before .before .before .args .mantissa)) (2 ^ c .before .before .before .args .shift)
 bottom-is c = c .lowest .ensures .1 ∙ ap₂ (λ x y. y / gcd x y) (size-is (c .before .before)) (c .before .power .ensures)
 
--- src/lib.rt:105:5
 made-requires : tie.Need-made-requires
 made-requires c κs =
     let start = c .before .before .before .before in
@@ -64,7 +54,6 @@ made-requires c κs =
       start .pre,
     )
 
--- src/lib.rt:99:1
 returns : tie.Need-returns
 unfolding limit
 returns c =

@@ -1,19 +1,16 @@
-use Rattle.arithmetic.proofs.Shortcuts.{word-is, times-nothing, times-comm}
-use Rattle.arithmetic.proofs.Operations.{good-num, good-den}
-use Rattle.arithmetic.specs.declared.Made.the-variants.{Fits}
+-- `arithmetic::product` meets its contract: zero is 0/1 times anything, and the order of two factors does not matter.
+-- Assumes nothing.
+use mathlib.Core.Path.{subst}
+use lib.IntN.{pos}
+use borrow.Author.Needs.{needs}
 use Rattle.fraction.specs.Exact.{value}
 use Rattle.arithmetic.specs.Values.{Answers}
-use lib.IntN.{pos}
-use mathlib.Core.Path.{refl, subst}
-use borrow.Author.Needs.{needs}
+use Rattle.arithmetic.specs.declared.Made.the-variants.{Fits}
+use Rattle.arithmetic.proofs.Operations.{good-num, good-den}
+use Rattle.arithmetic.proofs.Shortcuts.{word-is, times-nothing, times-comm}
 use Rattle.arithmetic.proofs.product.Statement.{statement}
 use Rattle.arithmetic.proofs.product.Tie as tie
-use Rattle.arithmetic.proofs.product.Reads as reads
-use Rattle.arithmetic.proofs.product.Lts as lts
-use Rattle.arithmetic.proofs.product_plain.Reads as product-plain-reads
-use Rattle.arithmetic.proofs.product_whole.Reads as product-whole-reads
 
--- src/lib.rt:73:9
 zero-requires : tie.Need-zero-requires
 zero-requires c κs = search needs
 
@@ -22,7 +19,6 @@ returns c =
     let start = c .before .before .before .before in
     times-nothing (start .pre .0) (start .pre .1) (word-is (pos 0) tt (good-num (start .pre .0)) (c .before .if1 .taken)) (c .zero .ensures .0) (c .zero .ensures .1)
 
--- src/lib.rt:76:9
 zero-requires-2 : tie.Need-zero-requires-2
 zero-requires-2 c κs = search needs
 
@@ -32,33 +28,27 @@ returns-2 c =
     subst (Answers (Fits (c .zero2 .result))) (times-comm (value (start .args .b)) (value (start .args .a)))
     (times-nothing (start .pre .1) (start .pre .0) (word-is (pos 0) tt (good-num (start .pre .1)) (c .before .if2 .taken)) (c .zero2 .ensures .0) (c .zero2 .ensures .1))
 
--- src/lib.rt:79:9
 product-whole-requires : tie.Need-product-whole-requires
 product-whole-requires c κs =
     let pre = c .before .before .before .before .before .before .before .before .before .pre in
     (pre .0, (pre .1, word-is (pos 1) tt (good-den (pre .0)) (c .if3 .taken)))
 
--- src/lib.rt:79:9
 returns-3 : tie.Need-returns-3
 returns-3 c = search needs
 
--- src/lib.rt:82:9
 product-whole-requires-2 : tie.Need-product-whole-requires-2
 product-whole-requires-2 c κs =
     let pre = c .before .before .before .before .before .before .before .before .before .before .before .before .pre in
     (pre .1, (pre .0, word-is (pos 1) tt (good-den (pre .1)) (c .if4 .taken)))
 
--- src/lib.rt:82:9
 returns-4 : tie.Need-returns-4
 returns-4 c =
     let start = c .before .before .before .before .before .before .before .before .before .before .before .before .before in
     subst (Answers (c .product-whole2 .result)) (times-comm (value (start .args .b)) (value (start .args .a))) (c .product-whole2 .ensures)
 
--- src/lib.rt:84:5
 product-plain-requires : tie.Need-product-plain-requires
 product-plain-requires c κs = search needs
 
--- src/lib.rt:67:1
 returns-5 : tie.Need-returns-5
 returns-5 c = search needs
 

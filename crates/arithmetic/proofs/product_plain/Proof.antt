@@ -1,32 +1,25 @@
-use Rattle.arithmetic.proofs.Operations.{good-num, times-is}
-use Rattle.arithmetic.proofs.Words.{kept}
-use Rattle.arithmetic.specs.Values.{Answers}
+-- `arithmetic::product_plain` meets its contract: it reduces what the rule reduces.
+-- Assumes nothing.
+use mathlib.Core.Path.{subst, _∙_}
+use native.Mathlib.Omega.{arith}
+use borrow.Author.Needs.{needs}
 use mir.Facts.{toZ-ofZ}
 use mir.Syntax.{w64}
-use native.Mathlib.Omega.{arith}
-use mathlib.Core.Path.{subst, _∙_}
-use borrow.Author.Needs.{needs}
+use Rattle.arithmetic.specs.Values.{Answers}
+use Rattle.arithmetic.proofs.Operations.{good-num, times-is}
+use Rattle.arithmetic.proofs.Words.{kept}
 use Rattle.arithmetic.proofs.product_plain.Statement.{statement}
 use Rattle.arithmetic.proofs.product_plain.Tie as tie
-use Rattle.arithmetic.proofs.product_plain.Reads as reads
-use Rattle.arithmetic.proofs.product_plain.Lts as lts
-use Rattle.arithmetic.proofs.bottoms.Reads as bottoms-reads
-use Rattle.arithmetic.proofs.reduce.reduced.Reads as reduced-reads
-use Rattle.arithmetic.proofs.signed.times.Reads as times-reads
 
--- src/lib.rt:48:13
 times-requires : tie.Need-times-requires
 times-requires c κs = search needs
 
--- src/lib.rt:48:42
 bottoms-requires : tie.Need-bottoms-requires
 bottoms-requires c κs = search needs
 
--- src/lib.rt:48:5
 reduced-requires : tie.Need-reduced-requires
 reduced-requires c κs = (rw (kept w64 (c .before .times .result) (c .before .times .ok)) (omega arith), c .bottoms .ensures .1)
 
--- src/lib.rt:43:1
 returns : tie.Need-returns
 returns c =
     let start = c .before .before .before .before .before in

@@ -1,20 +1,19 @@
-use Rattle.arithmetic.proofs.Words.{fits-size, size-sum, extended-within}
-use Rattle.arithmetic.specs.Fields.{extended}
-use mir.Facts.{toZ-ofZ, toZ-pos}
-use mir.Val.{SFits, toZ, ofZ}
-use mir.Syntax.{w32}
-use borrow.Author.Tests.{lt-ltb, le-ltb}
-use lib.IntN.{pos, negsuc, _-ℤ_}
+-- `arithmetic::signed16` meets its contract: the test is the rule's, and either number fits.
+-- Assumes nothing.
 use mathlib.Core.Bool.{cond}
-use native.Mathlib.Omega.{arith}
 use mathlib.Core.Path.{sym, ap, _∙_, _≡_}
+use native.Mathlib.Omega.{arith}
+use lib.IntN.{pos, negsuc, _-ℤ_}
 use borrow.Author.Needs.{needs}
+use borrow.Author.Tests.{lt-ltb, le-ltb}
+use mir.Facts.{toZ-ofZ, toZ-pos}
+use mir.Syntax.{w32}
+use mir.Val.{SFits, toZ, ofZ}
+use Rattle.arithmetic.specs.Fields.{extended}
+use Rattle.arithmetic.proofs.Words.{fits-size, size-sum, extended-within}
 use Rattle.arithmetic.proofs.signed16.Statement.{statement}
 use Rattle.arithmetic.proofs.signed16.Tie as tie
-use Rattle.arithmetic.proofs.signed16.Reads as reads
-use Rattle.arithmetic.proofs.signed16.Lts as lts
 
--- src/signed.rt:86:17
 cast-plain : tie.Need-cast-plain
 cast-plain c = search needs
 
@@ -23,11 +22,9 @@ fits-field c =
     let x = c .before .args .x in
     fits-size w32 (pos x -ℤ pos 65536) (omega (arith, size-sum (pos x) (negsuc 65535), c .before .fits .x))
 
--- src/signed.rt:87:35
 sub-result : tie.Need-sub-result
 sub-result c = rw (toZ-pos w32 {n = c .before .args .x} (omega (arith, c .before .fits .x))) (fits-field c)
 
--- src/signed.rt:83:1
 returns : tie.Need-returns
 unfolding extended
 returns c =
@@ -37,7 +34,6 @@ returns c =
     in
     (is, rw is (extended-within x (omega arith)))
 
--- src/signed.rt:83:1
 returns-2 : tie.Need-returns-2
 unfolding extended
 returns-2 c =

@@ -1,35 +1,30 @@
-use Rattle.arithmetic.proofs.Shortcuts.{word-is, plus-nothing, plus-comm}
-use Rattle.arithmetic.proofs.Operations.{good-num}
-use Rattle.arithmetic.specs.declared.Made.the-variants.{Fits}
+-- `arithmetic::sum` meets its contract: zero and a fraction make the fraction, in either order.
+-- Assumes nothing.
+use mathlib.Core.Path.{subst}
+use lib.IntN.{pos}
+use borrow.Author.Needs.{needs}
 use Rattle.fraction.specs.Exact.{value}
 use Rattle.arithmetic.specs.Values.{Answers}
-use lib.IntN.{pos}
-use mathlib.Core.Path.{subst}
-use borrow.Author.Needs.{needs}
+use Rattle.arithmetic.specs.declared.Made.the-variants.{Fits}
+use Rattle.arithmetic.proofs.Operations.{good-num}
+use Rattle.arithmetic.proofs.Shortcuts.{word-is, plus-nothing, plus-comm}
 use Rattle.arithmetic.proofs.sum.Statement.{statement}
 use Rattle.arithmetic.proofs.sum.Tie as tie
-use Rattle.arithmetic.proofs.sum.Reads as reads
-use Rattle.arithmetic.proofs.sum.Lts as lts
-use Rattle.arithmetic.proofs.sum_plain.Reads as sum-plain-reads
 
--- src/lib.rt:101:9
 returns : tie.Need-returns
 returns c =
     let start = c .before .before .before in
     plus-nothing (start .pre .0) (start .pre .1) (word-is (pos 0) tt (good-num (start .pre .0)) (c .if1 .taken))
 
--- src/lib.rt:104:9
 returns-2 : tie.Need-returns-2
 returns-2 c =
     let start = c .before .before .before .before .before .before in
     subst (Answers (Fits (start .args .a))) (plus-comm (value (start .args .b)) (value (start .args .a)))
     (plus-nothing (start .pre .1) (start .pre .0) (word-is (pos 0) tt (good-num (start .pre .1)) (c .if2 .taken)))
 
--- src/lib.rt:106:5
 sum-plain-requires : tie.Need-sum-plain-requires
 sum-plain-requires c κs = search needs
 
--- src/lib.rt:95:1
 returns-3 : tie.Need-returns-3
 returns-3 c = search needs
 

@@ -1,28 +1,23 @@
-use Rattle.arithmetic.proofs.Lowest.{frac-num, frac-den, frac-size}
-use Rattle.arithmetic.proofs.Linked.{answers-fits, answers-wide, answers-deep}
-use Rattle.fraction.specs.Limits.{limit}
-use Rattle.fraction.specs.Exact.{frac}
-use Rattle.whole.specs.Signed.{signed}
-use Rattle.whole.specs.Gcd.{gcd}
-use mir.Facts.{toZ-ofZ}
-use lib.IntN.{pos, natAbs}
-use native.Mathlib.Omega.{arith}
-use Prim.Native.Nat.{_/_}
+-- `arithmetic::reduce::lowered` meets its contract: it tests the two numbers that the rule tests.
+-- Assumes nothing.
 use mathlib.Core.Path.{_≡_, sym, ap, _∙_}
+use Prim.Native.Nat.{_/_}
+use native.Mathlib.Omega.{arith}
+use lib.IntN.{pos, natAbs}
 use borrow.Author.Needs.{needs}
+use mir.Facts.{toZ-ofZ}
+use Rattle.whole.specs.Gcd.{gcd}
+use Rattle.whole.specs.Signed.{signed}
+use Rattle.fraction.specs.Exact.{frac}
+use Rattle.fraction.specs.Limits.{limit}
+use Rattle.arithmetic.proofs.Linked.{answers-fits, answers-wide, answers-deep}
+use Rattle.arithmetic.proofs.Lowest.{frac-num, frac-den, frac-size}
 use Rattle.arithmetic.proofs.reduce.lowered.Statement.{statement}
 use Rattle.arithmetic.proofs.reduce.lowered.Tie as tie
-use Rattle.arithmetic.proofs.reduce.lowered.Reads as reads
-use Rattle.arithmetic.proofs.reduce.lowered.Lts as lts
-use Rattle.arithmetic.proofs.reduce.lowest.Reads as lowest-reads
-use Rattle.arithmetic.proofs.reduce.made.Reads as made-reads
-use Rattle.arithmetic.proofs.signed.size_wide.Reads as size-wide-reads
 
--- src/reduce.rt:57:24
 size-wide-requires : tie.Need-size-wide-requires
 size-wide-requires c κs = search needs
 
--- src/reduce.rt:57:9
 lowest-requires : tie.Need-lowest-requires
 lowest-requires c κs = search needs
 
@@ -40,25 +35,21 @@ bottom-is c =
     let start = c .before .before in
     c .lowest .ensures .1 ∙ ap (λ m. start .args .d / gcd m (start .args .d)) (size-is (c .before)) ∙ sym (frac-den (start .args .n) (start .args .d) (start .pre .1))
 
--- src/reduce.rt:61:9
 returns : tie.Need-returns
 unfolding limit
 returns c =
     let start = c .before .before .before in
     answers-wide (frac (start .args .n) (start .args .d)) (omega (arith, top-is (c .before)))
 
--- src/reduce.rt:64:9
 returns-2 : tie.Need-returns-2
 unfolding limit
 returns-2 c =
     let start = c .before .before .before .before in
     answers-deep (frac (start .args .n) (start .args .d)) (omega (arith, bottom-is (c .before .before)))
 
--- src/reduce.rt:66:16
 made-requires : tie.Need-made-requires
 made-requires c κs = search needs
 
--- src/reduce.rt:52:1
 returns-3 : tie.Need-returns-3
 unfolding limit
 returns-3 c =

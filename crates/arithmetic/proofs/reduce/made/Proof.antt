@@ -1,24 +1,19 @@
-use Rattle.arithmetic.proofs.Words.{kept}
-use mir.Facts.{toZ-ofZ}
-use mir.Syntax.{w32}
+-- `arithmetic::reduce::made` meets its contract: both numbers are read back as they were made.
+-- Assumes nothing.
 use mathlib.Core.Path.{_∙_}
 use borrow.Author.Needs.{needs}
+use mir.Facts.{toZ-ofZ}
+use mir.Syntax.{w32}
+use Rattle.arithmetic.proofs.Words.{kept}
 use Rattle.arithmetic.proofs.reduce.made.Statement.{statement}
 use Rattle.arithmetic.proofs.reduce.made.Tie as tie
-use Rattle.arithmetic.proofs.reduce.made.Reads as reads
-use Rattle.arithmetic.proofs.reduce.made.Lts as lts
-use Rattle.arithmetic.proofs.signed.narrow.Reads as narrow-reads
-use Rattle.arithmetic.proofs.signed.put_back.Reads as put-back-reads
 
--- src/reduce.rt:46:14
 put-back-requires : tie.Need-put-back-requires
 put-back-requires c κs = search needs
 
--- src/reduce.rt:47:14
 narrow-requires : tie.Need-narrow-requires
 narrow-requires c κs = search needs
 
--- src/reduce.rt:40:1
 returns : tie.Need-returns
 returns c =
     let start = c .before .before in (

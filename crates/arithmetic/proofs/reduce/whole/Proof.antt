@@ -1,23 +1,20 @@
-use Rattle.arithmetic.proofs.Shortcuts.{answers-lowest}
+-- `arithmetic::reduce::whole` meets its contract: n and 1 have no common divisor but 1.
+-- Assumes nothing.
+use mathlib.Core.Path.{_≡_, ap, _∙_}
+use native.Mathlib.Omega.{arith}
+use lib.IntN.{natAbs}
+use borrow.Author.Needs.{needs}
+use mir.Facts.{toZ-ofZ}
+use Rattle.whole.specs.Signed.{signed}
+use Rattle.whole.proofs.Divisors.{gcd-one}
+use Rattle.fraction.specs.Exact.{frac}
+use Rattle.fraction.specs.Limits.{limit}
 use Rattle.arithmetic.proofs.Linked.{answers-wide}
 use Rattle.arithmetic.proofs.Lowest.{lowest-num, signed-self}
-use Rattle.fraction.specs.Limits.{limit}
-use Rattle.fraction.specs.Exact.{frac}
-use Rattle.whole.proofs.Divisors.{gcd-one}
-use Rattle.whole.specs.Signed.{signed}
-use mir.Facts.{toZ-ofZ}
-use lib.IntN.{natAbs}
-use native.Mathlib.Omega.{arith}
-use mathlib.Core.Path.{_≡_, ap, _∙_}
-use borrow.Author.Needs.{needs}
+use Rattle.arithmetic.proofs.Shortcuts.{answers-lowest}
 use Rattle.arithmetic.proofs.reduce.whole.Statement.{statement}
 use Rattle.arithmetic.proofs.reduce.whole.Tie as tie
-use Rattle.arithmetic.proofs.reduce.whole.Reads as reads
-use Rattle.arithmetic.proofs.reduce.whole.Lts as lts
-use Rattle.arithmetic.proofs.reduce.made.Reads as made-reads
-use Rattle.arithmetic.proofs.signed.size_wide.Reads as size-wide-reads
 
--- src/reduce.rt:56:9
 size-wide-requires : tie.Need-size-wide-requires
 size-wide-requires c κs = search needs
 
@@ -25,18 +22,15 @@ size-wide-requires c κs = search needs
 size-is : (c : tie.After-size-wide) → c .size-wide .result ≡ natAbs (c .before .args .n)
 size-is c = c .size-wide .ensures ∙ ap natAbs (toZ-ofZ (c .before .fits .n))
 
--- src/reduce.rt:58:9
 returns : tie.Need-returns
 unfolding limit
 returns c =
     let n = c .before .before .args .n in
     answers-wide (frac n 1) (omega (arith, size-is (c .before), ap natAbs (lowest-num n 1 (omega arith) (gcd-one (natAbs n)))))
 
--- src/reduce.rt:60:16
 made-requires : tie.Need-made-requires
 made-requires c κs = search needs
 
--- src/reduce.rt:52:1
 returns-2 : tie.Need-returns-2
 unfolding limit
 returns-2 c =

@@ -1,17 +1,15 @@
-use mir.Facts.{toZ-pos}
-use mir.Syntax.{w32}
+-- `arithmetic::signed::narrow` meets its contract: a size within the limit is read back as it is.
+-- Assumes nothing.
 use native.Mathlib.Omega.{arith}
 use borrow.Author.Needs.{needs}
+use mir.Facts.{toZ-pos}
+use mir.Syntax.{w32}
 use Rattle.arithmetic.proofs.signed.narrow.Statement.{statement}
 use Rattle.arithmetic.proofs.signed.narrow.Tie as tie
-use Rattle.arithmetic.proofs.signed.narrow.Reads as reads
-use Rattle.arithmetic.proofs.signed.narrow.Lts as lts
 
--- src/signed.rt:60:5
 cast-result : tie.Need-cast-result
 cast-result c = search needs
 
--- src/signed.rt:56:1
 returns : tie.Need-returns
 returns c = toZ-pos w32 {n = c .args .size} (omega arith)
 

@@ -1,16 +1,13 @@
+-- `arithmetic::signed::plus` meets its contract: the size of a sum is at most the sum of the sizes.
+-- Assumes nothing.
 use mir.Facts.{toZ-ofZ}
 use Rattle.arithmetic.proofs.Words.{fits-sum}
-use borrow.Author.Needs.{needs}
 use Rattle.arithmetic.proofs.signed.plus.Statement.{statement}
 use Rattle.arithmetic.proofs.signed.plus.Tie as tie
-use Rattle.arithmetic.proofs.signed.plus.Reads as reads
-use Rattle.arithmetic.proofs.signed.plus.Lts as lts
 
--- src/signed.rt:27:5
 add-result : tie.Need-add-result
 add-result c = rw (toZ-ofZ (c .fits .a), toZ-ofZ (c .fits .b)) (fits-sum (c .args .a) (c .args .b) (c .pre .0) (c .pre .1))
 
--- src/signed.rt:22:1
 returns : tie.Need-returns
 returns c = rw (toZ-ofZ (c .fits .a), toZ-ofZ (c .fits .b)) (toZ-ofZ (fits-sum (c .args .a) (c .args .b) (c .pre .0) (c .pre .1)))
 

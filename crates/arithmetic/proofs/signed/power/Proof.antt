@@ -1,19 +1,17 @@
-use lib.Pow.{pow-lt}
-use native.Mathlib.Nat.{one-mul, mod-eq-of-lt}
-use Prim.Native.Nat.{_%_, _^_, _<_}
-use native.Mathlib.Omega.{arith}
+-- `arithmetic::signed::power` meets its contract: 2 to the power of at most 15 loses no bit.
+-- Assumes nothing.
 use mathlib.Core.Path.{ap, _∙_}
+use Prim.Native.Nat.{_%_, _^_, _<_}
+use native.Mathlib.Nat.{one-mul, mod-eq-of-lt}
+use native.Mathlib.Omega.{arith}
+use lib.Pow.{pow-lt}
 use borrow.Author.Needs.{needs}
 use Rattle.arithmetic.proofs.signed.power.Statement.{statement}
 use Rattle.arithmetic.proofs.signed.power.Tie as tie
-use Rattle.arithmetic.proofs.signed.power.Reads as reads
-use Rattle.arithmetic.proofs.signed.power.Lts as lts
 
--- src/signed.rt:95:5
 shl-result : tie.Need-shl-result
 shl-result c = search needs
 
--- src/signed.rt:91:1
 returns : tie.Need-returns
 returns c =
     let shift = c .args .shift in

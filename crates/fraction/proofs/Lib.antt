@@ -1,4 +1,5 @@
 pub mod Bounded
+pub mod Common
 pub mod Cross
 pub mod Equality
 pub mod Field

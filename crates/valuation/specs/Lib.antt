@@ -1,1 +1,4 @@
+pub mod Sound
 pub mod Valuation
+pub mod Values
+pub mod Written

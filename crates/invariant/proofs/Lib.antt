@@ -1,0 +1,15 @@
+pub mod Build
+pub mod Close
+pub mod Count
+pub mod Due
+pub mod Lin
+pub mod Merge
+pub mod Pivot
+pub mod Range
+pub mod Rows
+pub mod Run
+pub mod Solve
+pub mod Solved
+pub mod SolvedForm
+pub mod Steps
+pub mod Units

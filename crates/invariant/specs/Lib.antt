@@ -1,0 +1,2 @@
+pub mod Invariant
+pub mod Rows

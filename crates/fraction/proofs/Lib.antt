@@ -1,3 +1,4 @@
+pub mod Answers
 pub mod Bounded
 pub mod Common
 pub mod Cross

@@ -10,11 +10,12 @@ use native.Mathlib.Omega.{arith}
 use lib.ListN.{length}
 use Rattle.fraction.specs.Exact.{zeroℚ, eqℚ}
 use Rattle.fraction.specs.Made.{made, stopped, _>>=_}
-use Rattle.fraction.proofs.Making.{Answers, if-made, answers-made, answers-stopped, answers-then, answers-bind}
+use Rattle.fraction.proofs.Answers.{Answers, if-made, answers-made, answers-stopped, answers-then, answers-bind}
 use Rattle.linear.proofs.Eval.{eval-equal}
 use Rattle.problem.specs.declared.Term.{Term}
 use Rattle.problem.specs.Lookup.{inputsOf, kindAt}
 use Rattle.problem.specs.Problem.{Pair}
+use Rattle.valuation.proofs.Readings.{lookup-inputs}
 use Rattle.run.specs.Row.{TERMS, cell}
 use Rattle.run.specs.Merge.{State, contradiction, merge}
 use Rattle.run.specs.Close.{due, closeFor, close}
@@ -22,7 +23,6 @@ use Rattle.invariant.specs.Rows.{EqualRows}
 use Rattle.invariant.specs.Invariant.{Shaped, OneToOne, Equates, NoneMeets, isUnknown, isSolved, count, Invariant, Completed, Stopped}
 use Rattle.invariant.proofs.Count.{count-at-most, count-below}
 use Rattle.invariant.proofs.Due.{Due, due-some, due-none}
-use Rattle.invariant.proofs.Lin.{lookup-inputs}
 use Rattle.invariant.proofs.Merge.{merge-answers}
 use Rattle.invariant.proofs.Rows.{equal-places-values}
 use Rattle.invariant.proofs.Units.{column-below}

@@ -2,6 +2,7 @@ pub mod Build
 pub mod Close
 pub mod Count
 pub mod Due
+pub mod Granted
 pub mod Lin
 pub mod Merge
 pub mod Pivot

@@ -1,8 +1,8 @@
 -- The laws of a term as a linear function of its inputs.
--- Main results: `lin-congruent`, `lin-unknown`, `lin-own`, `Linear`, `lin-commutes`, `fold-linear`, `eval-linear`, `lookup-inputs`. Assume nothing.
+-- Main results: `lin-congruent`, `lin-unknown`, `lin-own`, `Linear`, `lin-commutes`, `fold-linear`, `eval-linear`. Assume nothing.
 use mathlib.Core.Path.{_≡_, refl, sym, ap, ap₂}
 use mathlib.Core.Bool.{true, false, true≢false, false≢true}
-use mathlib.Core.List.{[], List·Memᴰ, List·Memᴰ·head, List·Memᴰ·tail, List·Memᴰ·not-nil}
+use mathlib.Core.List.{[], List·Memᴰ, List·Memᴰ·head, List·Memᴰ·tail}
 use Prim.Native.Nat.{ℕ}
 use Rattle.whole.proofs.Solver.{ring}
 use Rattle.fraction.specs.Exact.{ℚ, zeroℚ, value, _+ℚ_, _-ℚ_, _*ℚ_}
@@ -12,10 +12,9 @@ use Rattle.linear.proofs.Eval.{eval-plus, eval-minus, eval-times}
 use Rattle.linear.proofs.Fold.{fold-plus, fold-minus, fold-times}
 use Rattle.problem.specs.declared.Kind.{Kind}
 use Rattle.problem.specs.declared.Kind.the-variants.{Variable, Constant, Gain, Sum, Difference, Lookup1, Lookup2, Lookup3}
-use Rattle.problem.specs.Lookup.{callOf, inputsOf}
 use Rattle.valuation.specs.Valuation.{lin}
-use Rattle.invariant.specs.Invariant.{isUnknown}
 use Rattle.valuation.specs.Written.{allInputs}
+use Rattle.invariant.specs.Invariant.{isUnknown}
 
 -- What a term counts depends on what its inputs count, and on nothing else.
 pub lin-congruent : (kind : Kind) (a b : ℕ → ℚ) (unit own : ℚ) → ((i : ℕ) → List·Memᴰ i (allInputs kind) → a i ≡ b i) → lin kind a unit own ≡ lin kind b unit own
@@ -89,15 +88,3 @@ zero-linear = record {
   minus = λ f g. ring ℚ-ring [] (search readsℚ depth 20) refl;
   times = λ k f. sym (times-zero k);
 }
-
--- The inputs of a lookup are its inputs.
-pub lookup-inputs : (kind : Kind) (i : ℕ) → List·Memᴰ i (inputsOf kind) → List·Memᴰ i (allInputs kind)
-unfolding inputsOf callOf allInputs
-lookup-inputs (Variable symbol) i h = h
-lookup-inputs (Constant held) i h = h
-lookup-inputs (Gain factor input) i h = absurd (List·Memᴰ·not-nil h)
-lookup-inputs (Sum left right) i h = absurd (List·Memᴰ·not-nil h)
-lookup-inputs (Difference left right) i h = absurd (List·Memᴰ·not-nil h)
-lookup-inputs (Lookup1 symbol input) i h = h
-lookup-inputs (Lookup2 symbol first second) i h = h
-lookup-inputs (Lookup3 symbol first second third) i h = h

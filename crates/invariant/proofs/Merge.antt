@@ -9,9 +9,9 @@ use Prim.Native.Nat.{ℕ, suc, _≤_, _<_}
 use lib.ListN.{length}
 use Rattle.fraction.specs.Exact.{ℚ, zeroℚ, eqℚ}
 use Rattle.fraction.specs.Made.{made, stopped}
+use Rattle.fraction.proofs.Answers.{Answers, if-made, if-stopped, answers-made, answers-stopped, answers-with, answers-bind, answers-because}
 use Rattle.fraction.proofs.Equality.{eqℚ-yes, eqℚ-no}
 use Rattle.fraction.proofs.Field.{difference-zero}
-use Rattle.fraction.proofs.Making.{Answers, if-made, if-stopped, answers-made, answers-stopped, answers-with, answers-bind, answers-because}
 use Rattle.linear.proofs.Eval.{eval-constant}
 use Rattle.problem.specs.declared.Term.{Term}
 use Rattle.problem.specs.Problem.{Pair}

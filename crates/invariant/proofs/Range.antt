@@ -10,8 +10,8 @@ use Rattle.answer.specs.Refusals.{RANGE}
 use Rattle.fraction.specs.Exact.{ℚ}
 use Rattle.fraction.specs.Limits.{tested, plus, minus, times, over}
 use Rattle.fraction.specs.Made.{Made, made, stopped}
+use Rattle.fraction.proofs.Answers.{Answers, if-made, if-stopped, answers-bind, answers-tab}
 use Rattle.fraction.proofs.Bounded.{tested-stopped}
-use Rattle.fraction.proofs.Making.{Answers, if-made, if-stopped, answers-bind, answers-tab}
 use Rattle.problem.specs.declared.Kind.{Kind}
 use Rattle.problem.specs.declared.Kind.the-variants.{Variable, Constant, Gain, Sum, Difference, Lookup1, Lookup2, Lookup3}
 use Rattle.problem.specs.declared.Term.{Term}

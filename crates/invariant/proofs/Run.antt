@@ -11,7 +11,7 @@ use Rattle.answer.specs.declared.Answer.{Answer}
 use Rattle.answer.specs.declared.Answer.the-variants.{Contradictory}
 use Rattle.fraction.specs.Exact.{ℚ}
 use Rattle.fraction.specs.Made.{made, stopped, _>>=_}
-use Rattle.fraction.proofs.Making.{Answers, if-made, answers-made, answers-stopped, answers-with, answers-bind, answers-because}
+use Rattle.fraction.proofs.Answers.{Answers, if-made, answers-made, answers-stopped, answers-with, answers-bind, answers-because}
 use Rattle.problem.specs.declared.Term.{Term}
 use Rattle.problem.specs.Lookup.{kindAt}
 use Rattle.problem.specs.Problem.{Pair, Problem}
@@ -50,7 +50,7 @@ module _ (rank : ℕ → ℕ) (terms : List Term) (one-to-one : OneToOne rank) (
         answers-bind (merge-answers rank terms (done ++ pair ∷ []) done state (pair .left) (pair .right) one-to-one (shaped .fits) (below .0) (below .1) forced in-force)
         (λ next merged. close-answers rank terms (done ++ pair ∷ []) (done ++ pair ∷ []) one-to-one shaped next (now-met next merged))
 
-  module _ (pairs : List Pair) (sides : SidesBelow (length terms) pairs) where
+  module _ (pairs : List Pair) where
     -- What a stop at a place means, with the assumptions up to that place in force.
     ends-ended : (place : ℕ) (inForce : List Pair) → inForce ≡ take place pairs → (stop : Stop) → Stopped terms inForce stop → Ended terms pairs (ends place stop)
     unfolding ends Stopped Ended
@@ -67,15 +67,15 @@ module _ (rank : ℕ → ℕ) (terms : List Term) (one-to-one : OneToOne rank) (
         (ends-ended 0 [] refl)
 
     -- The assumptions in file order.
-    assume-answers : (rest done : List Pair) (place : ℕ) (state : State) → done ++ rest ≡ pairs → place ≡ suc (length done) → Completed rank terms done done state → Answers (Completed rank terms pairs pairs) (Ended terms pairs) (assume rank terms place rest state)
+    assume-answers : SidesBelow (length terms) pairs → (rest done : List Pair) (place : ℕ) (state : State) → done ++ rest ≡ pairs → place ≡ suc (length done) → Completed rank terms done done state → Answers (Completed rank terms pairs pairs) (Ended terms pairs) (assume rank terms place rest state)
     unfolding assume SidesBelow
-    assume-answers [] done place state all here complete = if-made (subst (λ ps. Completed rank terms ps ps state) (sym (append-nil done) ∙ all) complete)
-    assume-answers (pair ∷ rest) done place state all here complete =
+    assume-answers sides [] done place state all here complete = if-made (subst (λ ps. Completed rank terms ps ps state) (sym (append-nil done) ∙ all) complete)
+    assume-answers sides (pair ∷ rest) done place state all here complete =
         let whole : done ++ pair ∷ [] ++ rest ≡ pairs = append-snoc done pair rest ∙ all in
         let far : length (done ++ pair ∷ []) ≡ place = simp length-append (omega arith) in
         answers-bind
         (answers-because (ends place) (step-answers done pair (sides pair (subst (List·Memᴰ pair) all (Memᴰ·append-right done (List·Memᴰ·head refl)))) state (complete .invariant)) (ends-ended place (done ++ pair ∷ []) (sym (take-at (done ++ pair ∷ []) rest place far) ∙ ap (take place) whole)))
-        (λ next step. assume-answers rest (done ++ pair ∷ []) (suc place) next whole (ap suc (sym far)) step)
+        (λ next step. assume-answers sides rest (done ++ pair ∷ []) (suc place) next whole (ap suc (sym far)) step)
 
 -- What meets all assumptions meets the first ones.
 meets-early : (v : ℕ → ℚ) (place : ℕ) (pairs : List Pair) → Meets v pairs → Meets v (take place pairs)
@@ -87,7 +87,7 @@ module _ (rank : ℕ → ℕ) (problem : Problem) (one-to-one : OneToOne rank) (
   pub run-answers : Answers (Completed rank (problem .terms) (problem .pairs) (problem .pairs)) (Ended (problem .terms) (problem .pairs)) (run rank problem)
   unfolding run
   run-answers =
-      answers-bind (begin-answers rank (problem .terms) one-to-one shaped (problem .pairs) sides)
+      answers-bind (begin-answers rank (problem .terms) one-to-one shaped (problem .pairs))
       (λ state complete. assume-answers rank (problem .terms) one-to-one shaped (problem .pairs) sides (problem .pairs) [] 1 state refl refl complete)
 
   -- A run that is made ends with all assumptions in force and met, and a closed table.

@@ -3,7 +3,7 @@
 use mathlib.Core.Path.{_≡_}
 use mathlib.Core.Logic.{_≢_, _⊎_}
 use mathlib.Core.Bool.{Bool, true, false, _&&_, cond}
-use mathlib.Core.List.{List, [], _∷_, List·Memᴰ}
+use mathlib.Core.List.{List, List·Memᴰ}
 use Prim.Native.Nat.{ℕ, zero, suc, _+_, _≤_, _<_}
 use lib.ListN.{length, take}
 use Rattle.answer.specs.declared.Answer.{Answer}
@@ -34,16 +34,18 @@ isUnknown (Lookup1 symbol input) = true
 isUnknown (Lookup2 symbol first second) = true
 isUnknown (Lookup3 symbol first second third) = true
 
--- What the tests of a record grant its terms: there is a column for each, and inputs stand below their own number.
+-- What the tests of a record grant its terms.
 pub record Shaped (terms : List Term) : Type 0 where
+  -- there is a column for each: used where an unknown is read from its own column (build, the count)
   pub fits : length terms ≤ TERMS
+  -- inputs stand below their own number: used in build, and for the values of inputs in closing
   pub earlier : (t : ℕ) → t < length terms → (i : ℕ) → List·Memᴰ i (allInputs (kindAt terms t)) → i < t
 
--- the sides of all pairs are terms below n
+-- the sides of all pairs are terms below n: used where an assumption is merged, for the values of both sides
 unfoldable pub SidesBelow : (n : ℕ) → List Pair → Type 0
 SidesBelow n pairs = (pair : Pair) → List·Memᴰ pair pairs → (pair .left < n) × (pair .right < n)
 
--- no two columns have the same rank
+-- no two columns have the same rank: used for I2, where every other column of a solved form ranks lower
 unfoldable pub OneToOne : (rank : ℕ → ℕ) → Type 0
 OneToOne rank = (c k : ℕ) → c < TERMS → k < TERMS → rank c ≡ rank k → c ≡ k
 

@@ -17,7 +17,7 @@ use Rattle.fraction.specs.declared.Fraction.{Fraction}
 use Rattle.arithmetic.specs.Values.{Good, Stands}
 use Rattle.arithmetic.proofs.Linked.{stands}
 use Rattle.arithmetic.proofs.Lowest.{frac-num, frac-den, frac-size, lowest-num, lowest-den, value-num, value-den}
-use Rattle.arithmetic.proofs.Words.{fits-size, size-product}
+use Rattle.integer.proofs.Words.{fits-size, size-product}
 
 -- a word of 32 bits holds the numbers of a good struct
 pub good-num : {f : Fraction} → Good f → SFits w32 (f .num)

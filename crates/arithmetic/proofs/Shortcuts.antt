@@ -20,7 +20,7 @@ use Rattle.arithmetic.specs.declared.Made.the-variants.{Fits}
 use Rattle.arithmetic.proofs.Linked.{answers-fits}
 use Rattle.arithmetic.proofs.Lowest.{frac-num, frac-den, lowest-num, lowest-den, value-num, value-den}
 use Rattle.arithmetic.proofs.Operations.{times-is, plus-is}
-use Rattle.arithmetic.proofs.Steps.{gcd-stops, gcd-step}
+use Rattle.integer.proofs.Steps.{gcd-stops, gcd-step}
 
 -- A word of 32 bits that has the bits of a constant is that constant.
 pub word-is : {x : ℤ} (k : ℤ) → T (ltb (mag k) (2 ^ 31)) → SFits w32 x → ofZ w32 x ≡ ofZ w32 k → x ≡ k

@@ -1,15 +1,13 @@
 -- Each contract leaves one answer.
 -- Main results: a law NAME-unique for each public function NAME. Assume nothing.
 use mathlib.Core.Path.{_≡_, sym, ap, _∙_}
-use Prim.Native.Nat.{ℕ, _^_}
+use Prim.Native.Nat.{ℕ}
 use native.Mathlib.Omega.{arith}
-use lib.IntN.{ℤ}
-use Rattle.fraction.specs.Exact.{ℚ, frac, negℚ, value}
+use Rattle.fraction.specs.Exact.{ℚ, negℚ, value}
 use Rattle.fraction.specs.Made as rule
 use Rattle.fraction.specs.Limits.{plus, minus, times, over}
 use Rattle.fraction.specs.Made.{made, stopped}
 use Rattle.fraction.specs.declared.Fraction.{Fraction}
-use Rattle.arithmetic.specs.Fields.{extended}
 use Rattle.arithmetic.specs.Values.{Stands, says, Sound, Answers}
 use Rattle.arithmetic.specs.declared.Made.the-variants.{Fits, Refused}
 use Rattle.arithmetic.specs.declared.Made.{Made}
@@ -52,8 +50,5 @@ quotient-unique a b r s p q = answers-unique p q
 pub negated-unique : (a : Fraction) (f g : Fraction) → Stands f (negℚ (value a)) → Stands g (negℚ (value a)) → f ≡ g
 negated-unique a f g p q = stands-unique p q
 
-pub of-record-unique : (mantissa : ℤ) (shift : ℕ) (f g : Fraction) → Stands f (frac mantissa (2 ^ shift)) → Stands g (frac mantissa (2 ^ shift)) → f ≡ g
-of-record-unique mantissa shift f g p q = stands-unique p q
-
-pub signed16-unique : (x : ℕ) (r s : ℤ) → r ≡ extended x → s ≡ extended x → r ≡ s
-signed16-unique x r s p q = p ∙ sym q
+pub lowered-unique : (a : Fraction) (f g : Fraction) → Stands f (value a) → Stands g (value a) → f ≡ g
+lowered-unique a f g p q = stands-unique p q

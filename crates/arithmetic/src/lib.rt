@@ -1,23 +1,19 @@
 // The operations of the run on fractions: made exactly, in lowest terms, and tested against the limits.
-mod euclid;
 mod reduce;
-mod signed;
 
 use crate::reduce::lowest;
 use crate::reduce::made;
 use crate::reduce::reduced;
-use crate::signed::opposite;
-use crate::signed::power;
-use crate::signed::size;
-use crate::signed::size_wide;
-use crate::signed::wide;
 use fraction::Fraction;
+use integer::signed::opposite;
+use integer::signed::size;
+use integer::signed::size_wide;
+use integer::signed::wide;
 ghost use mathlib.Core.Path.{_≡_};
 ghost use Prim.Native.Nat.{_<_, _≤_, _^_, _*_};
 ghost use lib.IntN.{pos, natAbs, _+ℤ_, _*ℤ_};
 ghost use Rattle.fraction.specs.Exact.{frac, negℚ, inverse, value};
-ghost use Rattle.fraction.specs.Limits.{plus, minus, times, over};
-ghost use Rattle.arithmetic.specs.Fields.{extended};
+ghost use Rattle.fraction.specs.Limits.{limit, plus, minus, times, over};
 ghost use Rattle.arithmetic.specs.Values.{Good, Stands, Answers};
 
 // What an operation answers: the fraction made, or the number of its refusal.
@@ -40,7 +36,7 @@ fn bottoms(a: Fraction, b: Fraction) -> u64
     ensures { λ r. ⌜ r ≡ natAbs (a .den) * natAbs (b .den) ⌝ }
     ensures { λ r. ⌜ 0 < r ⌝ }
 {
-    size_wide(signed::times(a.den, b.den))
+    size_wide(integer::signed::times(a.den, b.den))
 }
 
 // The numerator of a sum, over the product of the denominators.
@@ -50,7 +46,10 @@ fn cross(a: Fraction, b: Fraction) -> i64
     ensures { λ r. ⌜ r ≡ a .num *ℤ b .den +ℤ b .num *ℤ a .den ⌝ }
     ensures { λ r. ⌜ natAbs r < 2 ^ 63 ⌝ }
 {
-    signed::plus(signed::times(a.num, b.den), signed::times(b.num, a.den))
+    integer::signed::plus(
+        integer::signed::times(a.num, b.den),
+        integer::signed::times(b.num, a.den),
+    )
 }
 
 // Any two factors.
@@ -59,7 +58,7 @@ fn product_plain(a: Fraction, b: Fraction) -> Made
     requires { ⌜ Good b ⌝ }
     ensures { λ r. ⌜ Answers r (times (value a) (value b)) ⌝ }
 {
-    reduced(signed::times(a.num, b.num), bottoms(a, b))
+    reduced(integer::signed::times(a.num, b.num), bottoms(a, b))
 }
 
 // A whole number times a fraction: times 1 and times -1 need no gcd.
@@ -164,21 +163,13 @@ pub fn quotient(a: Fraction, b: Fraction) -> Made
     product(a, inverted(b))
 }
 
-// A field of 16 bits in two's complement, as the number it stands for.
-pub fn signed16(x: u16) -> i32
-    ensures { λ r. ⌜ r ≡ extended x ⌝ }
-    ensures { λ r. ⌜ natAbs r ≤ 32768 ⌝ }
+// A fraction as a record has it, in lowest terms: never refused, since neither number gets larger.
+pub fn lowered(f: Fraction) -> Fraction
+    requires { ⌜ 1 ≤ natAbs (f .den) ⌝ }
+    requires { ⌜ natAbs (f .den) ≤ limit ⌝ }
+    requires { ⌜ natAbs (f .num) ≤ limit ⌝ }
+    ensures { λ r. ⌜ Stands r (value f) ⌝ }
 {
-    let plain = x as i32;
-    if x < 32768 { plain } else { plain - 65536 }
-}
-
-// The number of a record, mantissa / 2^shift: never refused, since both are at most 32,768.
-pub fn of_record(mantissa: i32, shift: u8) -> Fraction
-    requires { ⌜ natAbs mantissa ≤ 32768 ⌝ }
-    requires { ⌜ shift ≤ 15 ⌝ }
-    ensures { λ r. ⌜ Stands r (frac mantissa (2 ^ shift)) ⌝ }
-{
-    let terms = lowest(size(mantissa), power(shift));
-    made(wide(mantissa), terms.top, terms.bottom)
+    let terms = lowest(size(f.num), size(f.den));
+    made(wide(f.num), terms.top, terms.bottom)
 }

@@ -1,10 +1,10 @@
 // A whole number over another, in lowest terms and tested against the limits.
 use crate::Made;
-use crate::euclid::greatest;
-use crate::signed::narrow;
-use crate::signed::put_back;
-use crate::signed::size_wide;
 use fraction::Fraction;
+use integer::euclid::greatest;
+use integer::signed::narrow;
+use integer::signed::put_back;
+use integer::signed::size_wide;
 ghost use mathlib.Core.Path.{_≡_};
 ghost use Prim.Native.Nat.{_/_, _<_, _≤_, _^_};
 ghost use lib.IntN.{pos, natAbs};

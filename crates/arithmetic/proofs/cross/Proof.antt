@@ -8,7 +8,7 @@ use mir.Facts.{toZ-ofZ}
 use mir.Syntax.{w64}
 use mir.Val.{toZ, ofZ}
 use Rattle.arithmetic.proofs.Operations.{good-num, good-den, product-below}
-use Rattle.arithmetic.proofs.Words.{kept, size-sum}
+use Rattle.integer.proofs.Words.{kept, size-sum}
 use Rattle.arithmetic.proofs.cross.Statement.{statement}
 use Rattle.arithmetic.proofs.cross.Tie as tie
 

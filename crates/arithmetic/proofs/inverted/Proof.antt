@@ -9,7 +9,7 @@ use mir.Syntax.{w64}
 use Rattle.whole.specs.Signed.{signed}
 use Rattle.fraction.specs.Limits.{limit}
 use Rattle.arithmetic.proofs.Operations.{good-num, good-den, inverse-is, inverse-zero}
-use Rattle.arithmetic.proofs.Words.{read-back}
+use Rattle.integer.proofs.Words.{read-back}
 use Rattle.arithmetic.proofs.inverted.Statement.{statement}
 use Rattle.arithmetic.proofs.inverted.Tie as tie
 

@@ -7,7 +7,7 @@ use mir.Facts.{toZ-ofZ}
 use mir.Syntax.{w64}
 use Rattle.arithmetic.specs.Values.{Answers}
 use Rattle.arithmetic.proofs.Operations.{good-num, times-is}
-use Rattle.arithmetic.proofs.Words.{kept}
+use Rattle.integer.proofs.Words.{kept}
 use Rattle.arithmetic.proofs.product_plain.Statement.{statement}
 use Rattle.arithmetic.proofs.product_plain.Tie as tie
 

@@ -5,7 +5,7 @@ use borrow.Author.Needs.{needs}
 use mir.Syntax.{w64}
 use Rattle.arithmetic.specs.Values.{Answers}
 use Rattle.arithmetic.proofs.Operations.{plus-is}
-use Rattle.arithmetic.proofs.Words.{kept}
+use Rattle.integer.proofs.Words.{kept}
 use Rattle.arithmetic.proofs.sum_plain.Statement.{statement}
 use Rattle.arithmetic.proofs.sum_plain.Tie as tie
 

@@ -1,0 +1,3 @@
+// Whole numbers in code: the signed operations, one to a function, and Euclid's rule.
+pub mod euclid;
+pub mod signed;

@@ -1,0 +1,90 @@
+// The signed operations, one to a function: what each gives as a whole number.
+ghost use mathlib.Core.Path.{_≡_};
+ghost use mathlib.Core.Bool.{not};
+ghost use Prim.Native.Nat.{_<_, _≤_, _^_};
+ghost use lib.IntN.{_+ℤ_, _*ℤ_, negℤ, natAbs, pos};
+ghost use lib.Signed.{nonNeg};
+ghost use Rattle.whole.specs.Signed.{signed};
+
+// The same number in 64 bits.
+pub fn wide(a: i32) -> i64
+    ensures { λ r. ⌜ r ≡ a ⌝ }
+{
+    a as i64
+}
+
+// Two factors of 32 bits always fit: 2^31 times 2^31 is 2^62.
+pub fn times(a: i32, b: i32) -> i64
+    ensures { λ r. ⌜ r ≡ a *ℤ b ⌝ }
+    ensures { λ r. ⌜ natAbs r ≤ 2 ^ 62 ⌝ }
+{
+    wide(a) * wide(b)
+}
+
+// The bounds leave room for the sum: two products of numbers within the limits meet them.
+pub fn plus(a: i64, b: i64) -> i64
+    requires { ⌜ natAbs a < 2 ^ 62 ⌝ }
+    requires { ⌜ natAbs b < 2 ^ 62 ⌝ }
+    ensures { λ r. ⌜ r ≡ a +ℤ b ⌝ }
+{
+    a + b
+}
+
+// An i32 also holds -2^31, whose opposite it does not hold.
+pub fn opposite(a: i32) -> i32
+    requires { ⌜ natAbs a < 2 ^ 31 ⌝ }
+    ensures { λ r. ⌜ r ≡ negℤ a ⌝ }
+{
+    -a
+}
+
+// The same at 64 bits.
+pub fn opposite_wide(a: i64) -> i64
+    requires { ⌜ natAbs a < 2 ^ 63 ⌝ }
+    ensures { λ r. ⌜ r ≡ negℤ a ⌝ }
+{
+    -a
+}
+
+// Whether a sign is to be put back.
+pub fn negative(a: i64) -> bool
+    ensures { λ r. ⌜ r ≡ not (nonNeg a) ⌝ }
+{
+    a < 0
+}
+
+// How far a number is from 0: what gcd, reduction and limits go by.
+pub fn size_wide(a: i64) -> u64
+    requires { ⌜ natAbs a < 2 ^ 63 ⌝ }
+    ensures { λ r. ⌜ r ≡ natAbs a ⌝ }
+{
+    if negative(a) {
+        opposite_wide(a) as u64
+    } else {
+        a as u64
+    }
+}
+
+// The same at 32 bits, where every number has a size that fits.
+pub fn size(a: i32) -> u64
+    ensures { λ r. ⌜ r ≡ natAbs a ⌝ }
+{
+    size_wide(wide(a))
+}
+
+// A size within the limit, as it is.
+pub fn narrow(size: u64) -> i32
+    requires { ⌜ size ≤ 2147483647 ⌝ }
+    ensures { λ r. ⌜ r ≡ pos size ⌝ }
+{
+    size as i32
+}
+
+// A size within the limit, with the sign of another number.
+pub fn put_back(like: i64, size: u64) -> i32
+    requires { ⌜ size ≤ 2147483647 ⌝ }
+    ensures { λ r. ⌜ r ≡ signed like size ⌝ }
+{
+    let upward = size as i32;
+    if negative(like) { -upward } else { upward }
+}

@@ -1,1 +1,3 @@
+pub mod Cells
+pub mod Decided
 pub mod Laid

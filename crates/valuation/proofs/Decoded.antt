@@ -1,5 +1,5 @@
 -- A problem that is decoded is sound: the tests 3 to 6 of the table have passed.
--- Main result: `decoded-sound`. Assumes nothing.
+-- Main results: `decoded-parts`, `decoded-sound`. Assume nothing.
 use mathlib.Core.Path.{_≡_, refl, sym, ap, _∙_, subst}
 use mathlib.Core.Logic.{_⊎_, inl, inr}
 use mathlib.Core.Bool.{Bool, true, false, _&&_, cond, and-eq-true-iff}
@@ -113,13 +113,13 @@ pair-inside bytes n place p pair h =
     subst (λ x. (x .left < n) × (x .right < n)) same (ltb-true _ _ left, ltb-true _ _ right)
 
 -- What is read of a problem that is decoded.
-record Parts (bytes : List ℕ) (problem : Problem) : Type 0 where
-  counts : (leb 1 (field bytes 0 8) && leb (field bytes 0 8) 64 && leb (field bytes 8 8) 64) ≡ true
-  terms : tab (field bytes 0 8) 0 (termAt bytes) ≡ made (problem .terms)
-  goal : pairAt bytes (field bytes 0 8) 0 16 ≡ made (problem .goal)
-  pairs : tab (field bytes 8 8) 1 (λ k. pairAt bytes (field bytes 0 8) k (32 + 64 * field bytes 0 8 + 16 * (k - 1))) ≡ made (problem .pairs)
+pub record Parts (bytes : List ℕ) (problem : Problem) : Type 0 where
+  pub counts : (leb 1 (field bytes 0 8) && leb (field bytes 0 8) 64 && leb (field bytes 8 8) 64) ≡ true
+  pub terms : tab (field bytes 0 8) 0 (termAt bytes) ≡ made (problem .terms)
+  pub goal : pairAt bytes (field bytes 0 8) 0 16 ≡ made (problem .goal)
+  pub pairs : tab (field bytes 8 8) 1 (λ k. pairAt bytes (field bytes 0 8) k (32 + 64 * field bytes 0 8 + 16 * (k - 1))) ≡ made (problem .pairs)
 
-decoded-parts : (bytes : List ℕ) (problem : Problem) → decoded bytes ≡ made problem → Parts bytes problem
+pub decoded-parts : (bytes : List ℕ) (problem : Problem) → decoded bytes ≡ made problem → Parts bytes problem
 unfolding decoded
 decoded-parts bytes problem h =
     let (long, counted) = need-made _ _ _ problem h in
@@ -137,7 +137,7 @@ decoded-parts bytes problem h =
     }
 
 -- a member of a list stands at some place in it
-place-of : {A : Type 0} (d : A) {a : A} {list : List A} → List·Memᴰ a list → (i : ℕ) × (i < length list) × (getD list i d ≡ a)
+pub place-of : {A : Type 0} (d : A) {a : A} {list : List A} → List·Memᴰ a list → (i : ℕ) × (i < length list) × (getD list i d ≡ a)
 place-of d (List·Memᴰ·head same) = (0, omega arith, sym same)
 place-of d (List·Memᴰ·tail later) = let found = place-of d later in (suc (found .0), omega (arith, found .1), found .2)
 

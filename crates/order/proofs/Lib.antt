@@ -1,0 +1,10 @@
+pub mod Bytes
+pub mod Count
+pub mod Free
+pub mod Lists
+pub mod Order
+pub mod Outcomes
+pub mod Pairs
+pub mod Ranked
+pub mod Rows
+pub mod Shown

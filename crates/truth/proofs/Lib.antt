@@ -1,0 +1,9 @@
+pub mod Answers
+pub mod Balanced
+pub mod Decided
+pub mod Equated
+pub mod Model
+pub mod Readings
+pub mod Truthful
+pub mod Weighted
+pub mod Words

@@ -1,0 +1,1 @@
+// No code: the crate holds that what the run answers is true.

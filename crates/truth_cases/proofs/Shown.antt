@@ -1,0 +1,85 @@
+-- Demand 2 at cases of document 01: what the rules say of their bytes, computed, is true of their problems.
+-- Main results: `a-shows-equal-rows`, `b-is-entailed`, `d-is-contradictory`, `h-is-not-entailed`. Assume nothing.
+use mathlib.Core.Path.{_≡_, refl, sym, ap, _∙_}
+use mathlib.Core.Logic.{inr}
+use mathlib.Core.List.{List, List·Memᴰ·head}
+use Prim.Native.Nat.{ℕ, _≤_}
+use native.Mathlib.Omega.{arith}
+use lib.ListN.{length, replicate, length-replicate}
+use lib.IntN.{ℤ, pos}
+use Rattle.answer.specs.Refusals.{RANGE}
+use Rattle.answer.specs.Said.{Word, entailed, not-entailed, contradictory, refused, said}
+use Rattle.fraction.specs.Made.{made}
+use Rattle.problem.specs.Problem.{Problem, decoded}
+use Rattle.reading.specs.Reading.{MeetsAll}
+use Rattle.reading.specs.Forced.{Forced, IsContradictory, IsEntailed, IsNotEntailed}
+use Rattle.run.specs.Run.{byNumber}
+use Rattle.outcome.specs.Outcome.{PLACES, outcome}
+use Rattle.outcome.proofs.Decided.{outcome-answer}
+use Rattle.verdict.specs.Demands.{wordOf, InRange, EqualRows, Finished, Truthful, EqualIsTrue}
+use Rattle.truth.proofs.Truthful.{rules-tell-the-truth, said-in-range}
+use Rattle.cases.specs.Computed.{computedAnswer}
+use Rattle.cases.specs.Table.{bytes, caseA, table}
+use Rattle.truth_cases.specs.Problems.{bytesOf, pair, problemA, problemB, problemD, problemH}
+
+-- two lists that are long enough
+pub lent : List ℤ
+lent = replicate PLACES (pos 0)
+
+long : PLACES ≤ length lent
+unfolding lent
+long = omega (arith, length-replicate PLACES (pos 0))
+
+-- Case k holds the problem, and the rules say the word.
+pub record Case (k : ℕ) (problem : Problem) (word : Word) : Type 0 where
+  pub holds : decoded (bytesOf k) ≡ made problem
+  pub computes : computedAnswer (bytesOf k) .word ≡ word
+
+module _ {k : ℕ} {problem : Problem} {word : Word} (case : Case k problem word) where
+  -- Demand 2 says that the rules tell the truth of it,
+  tells : Truthful problem (outcome byNumber (bytesOf k) lent lent)
+  unfolding EqualIsTrue
+  tells = rules-tell-the-truth (bytesOf k) lent lent problem long long (case .holds)
+
+  -- and the word that comes back is the one that is computed.
+  says : wordOf (outcome byNumber (bytesOf k) lent lent) ≡ word
+  unfolding wordOf computedAnswer
+  says = ap (λ answer. said answer .word) (outcome-answer byNumber (bytesOf k) lent lent long long) ∙ case .computes
+
+  inside : (word ≡ refused RANGE → ⊥) → InRange problem
+  inside other = said-in-range tells (λ refuses. other (sym says ∙ refuses))
+
+pub caseA-not-entailed : Case 0 problemA not-entailed
+unfolding computedAnswer bytesOf bytes caseA table problemA
+caseA-not-entailed = record { holds = refl; computes = refl }
+
+caseB-entailed : Case 1 problemB entailed
+unfolding computedAnswer bytesOf bytes caseA table problemB
+caseB-entailed = record { holds = refl; computes = refl }
+
+caseD-contradictory : Case 3 problemD contradictory
+unfolding computedAnswer bytesOf bytes caseA table problemD
+caseD-contradictory = record { holds = refl; computes = refl }
+
+caseH-not-entailed : Case 5 problemH not-entailed
+unfolding computedAnswer bytesOf bytes caseA table problemH
+caseH-not-entailed = record { holds = refl; computes = refl }
+
+-- Case A: the assumption forces f(-1/8 x) and 3/2 equal, so the lists show them with equal rows.
+pub a-shows-equal-rows : EqualRows (outcome byNumber (bytesOf 0) lent lent) 2 3
+unfolding problemA Finished Forced MeetsAll
+a-shows-equal-rows =
+    tells caseA-not-entailed .rows-exactly (inr (says caseA-not-entailed)) 2 3 (omega arith) (omega arith) .1
+    (λ met. met .meets (pair 2 3) (List·Memᴰ·head refl))
+
+-- Case B: in every reading with f³(x) = f(x), f⁵(x) is f(x).
+pub b-is-entailed : IsEntailed problemB
+b-is-entailed = tells caseB-entailed .entailed-exactly (inside caseB-entailed (λ same. let no-way : _≡_ {A = ℕ} 0 1 = cc in omega arith)) .0 (says caseB-entailed)
+
+-- Case D: no reading meets the three assumptions.
+pub d-is-contradictory : IsContradictory problemD
+d-is-contradictory = tells caseD-contradictory .contradictory-exactly (inside caseD-contradictory (λ same. let no-way : _≡_ {A = ℕ} 0 1 = cc in omega arith)) .0 (says caseD-contradictory)
+
+-- Case H: a reading meets x = y and f³(x) = f(x) and gives f⁴(y) and f(x) different numbers.
+pub h-is-not-entailed : IsNotEntailed problemH
+h-is-not-entailed = tells caseH-not-entailed .not-entailed-exactly (inside caseH-not-entailed (λ same. let no-way : _≡_ {A = ℕ} 0 1 = cc in omega arith)) .0 (says caseH-not-entailed)

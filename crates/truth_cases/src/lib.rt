@@ -1,0 +1,1 @@
+// No code: the crate holds what the laws say of some cases of document 01.

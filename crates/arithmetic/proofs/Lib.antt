@@ -1,5 +1,7 @@
+pub mod Answered
 pub mod Linked
 pub mod Lowest
 pub mod Operations
 pub mod Shortcuts
+pub mod Tests
 pub mod Unique

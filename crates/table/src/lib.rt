@@ -5,6 +5,12 @@ ghost use Prim.Native.Nat.{_+_, _*_, _<_, _≤_};
 ghost use lib.ListN.{length, set};
 ghost use Rattle.table.specs.Held.{heldAt};
 
+// The terms that a table has room for: the columns of the unknowns, before the constant's.
+pub const TERMS: usize = 64;
+
+// 01, The run: a row is "a fraction for each term number (columns 0 to 63) and a constant (column 64)".
+pub const COLUMNS: usize = TERMS + 1;
+
 // A step that writes into the lists is done, or refused with a number.
 pub enum Step {
     Done,

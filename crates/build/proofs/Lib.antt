@@ -1,0 +1,4 @@
+pub mod Decoded
+pub mod Noted
+pub mod Rows
+pub mod Unique

@@ -1,0 +1,88 @@
+-- The lookups as numbers: one more term is noted.
+-- Main results: `below-more`, `no-call`, `calls-noted`. Assume nothing.
+use mathlib.Core.Path.{_≡_, refl, sym, ap, _∙_}
+use mathlib.Core.List.{List, [], _∷_}
+use mathlib.Core.Option.{none}
+use Prim.Native.Nat.{ℕ, zero, suc, _+_, _*_, _≤_, _<_}
+use native.Mathlib.Nat.{add-zero}
+use native.Mathlib.Decide.{ℕ-discrete}
+use native.Mathlib.Omega.{arith}
+use lib.ListN.{length, getD, set, length-set}
+use lib.Seq.{getD-set-same, getD-set-other}
+use denote.Enum.Declared.{tagOf}
+use types.Run.{OneOf, miss}
+use Rattle.problem.specs.declared.Kind.{Kind}
+use Rattle.problem.specs.declared.Kind.the-variants.{Variable, Constant, Gain, Sum, Difference, Lookup1, Lookup2, Lookup3}
+use Rattle.problem.specs.declared.Term.{Term}
+use Rattle.problem.specs.Lookup.{callOf, kindAt}
+use Rattle.problem.proofs.Kind.{the-type}
+use Rattle.table.specs.Calls.{headOf, inputOf, Calls}
+use Rattle.build_rows.specs.Buildable.{Below}
+
+-- Inputs below a number are below any larger one.
+pub below-more : {own more : ℕ} (kind : Kind) → own ≤ more → Below own kind → Below more kind
+unfolding Below
+below-more (Variable symbol) h b = tt
+below-more (Constant value) h b = tt
+below-more (Gain factor input) h b = omega arith
+below-more (Sum left right) h b = omega arith
+below-more (Difference left right) h b = omega arith
+below-more (Lookup1 symbol input) h b = omega arith
+below-more (Lookup2 symbol first second) h b = omega arith
+below-more (Lookup3 symbol first second third) h b = omega arith
+
+-- A term of another kind is no lookup.
+pub no-call : (kind : Kind) → OneOf (0 ∷ 1 ∷ 2 ∷ 3 ∷ 4 ∷ []) (tagOf the-type kind) → callOf kind ≡ none
+unfolding callOf
+no-call (Variable symbol) tag = refl
+no-call (Constant value) tag = refl
+no-call (Gain factor input) tag = refl
+no-call (Sum left right) tag = refl
+no-call (Difference left right) tag = refl
+no-call (Lookup1 symbol input) tag = absurd (miss (0 ∷ 1 ∷ 2 ∷ 3 ∷ 4 ∷ []) 5 tt tag)
+no-call (Lookup2 symbol first second) tag = absurd (miss (0 ∷ 1 ∷ 2 ∷ 3 ∷ 4 ∷ []) 6 tt tag)
+no-call (Lookup3 symbol first second third) tag = absurd (miss (0 ∷ 1 ∷ 2 ∷ 3 ∷ 4 ∷ []) 7 tt tag)
+
+-- Three places stored to hold what was stored; the places before them what they held.
+module _ (l : List ℕ) (k x y z : ℕ) where
+  abbrev pub stored : List ℕ
+  stored = set (set (set l k x) (k + 1) y) (k + 2) z
+
+  stored-before : (j : ℕ) → j < k → getD stored j 0 ≡ getD l j 0
+  stored-before j before =
+      getD-set-other (set (set l k x) (k + 1) y) (k + 2) j z 0 (λ e. omega arith) ∙ getD-set-other (set l k x) (k + 1) j y 0 (λ e. omega arith) ∙ getD-set-other l k j x 0 (λ e. omega arith)
+
+  module _ (there : k + 2 < length l) where
+    stored-first : getD stored k 0 ≡ x
+    stored-first =
+        getD-set-other (set (set l k x) (k + 1) y) (k + 2) k z 0 (λ e. omega arith) ∙ getD-set-other (set l k x) (k + 1) k y 0 (λ e. omega arith) ∙ getD-set-same l k x 0 (omega arith)
+
+    stored-second : getD stored (k + 1) 0 ≡ y
+    stored-second =
+        getD-set-other (set (set l k x) (k + 1) y) (k + 2) (k + 1) z 0 (λ e. omega arith) ∙ getD-set-same (set l k x) (k + 1) y 0 (simp length-set (omega arith))
+
+    stored-third : getD stored (k + 2) 0 ≡ z
+    stored-third = getD-set-same (set (set l k x) (k + 1) y) (k + 2) z 0 (simp length-set (omega arith))
+
+-- The call of one more term is noted: the heads and inputs are those of one term more.
+pub calls-noted : (terms : List Term) (t : ℕ) {kind : Kind} {heads inputs heads′ inputs′ : List ℕ} → t < length heads → 3 * t + 2 < length inputs → kindAt terms t ≡ kind → heads′ ≡ set heads t (headOf kind) → inputs′ ≡ stored inputs (3 * t) (inputOf kind 0) (inputOf kind 1) (inputOf kind 2) → Calls terms t heads inputs → Calls terms (t + 1) heads′ inputs′
+calls-noted terms t {kind} {heads} {inputs} {heads′} {inputs′} short wide e head-is inputs-are calls =
+    record {
+      head = λ s below. ap (λ l. getD l s 0) head-is ∙ head-at s below (ℕ-discrete s t);
+      input = λ s i below place. ap (λ l. getD l (3 * s + i) 0) inputs-are ∙ input-at s i below place (ℕ-discrete s t);
+    }
+  where
+    head-at : (s : ℕ) → s < t + 1 → Dec (s ≡ t) → getD (set heads t (headOf kind)) s 0 ≡ headOf (kindAt terms s)
+    head-at s below (yes same) = rw same (getD-set-same heads t (headOf kind) 0 short ∙ ap headOf (sym e))
+    head-at s below (no other) = getD-set-other heads t s (headOf kind) 0 other ∙ calls .head s (omega arith)
+
+    own : (i : ℕ) → i < 3 → getD (stored inputs (3 * t) (inputOf kind 0) (inputOf kind 1) (inputOf kind 2)) (3 * t + i) 0 ≡ inputOf kind i
+    own zero place = rw add-zero (stored-first inputs (3 * t) (inputOf kind 0) (inputOf kind 1) (inputOf kind 2) wide)
+    own (suc zero) place = stored-second inputs (3 * t) (inputOf kind 0) (inputOf kind 1) (inputOf kind 2) wide
+    own (suc (suc zero)) place = stored-third inputs (3 * t) (inputOf kind 0) (inputOf kind 1) (inputOf kind 2) wide
+    own (suc (suc (suc i))) place = absurd (omega arith)
+
+    input-at : (s i : ℕ) → s < t + 1 → i < 3 → Dec (s ≡ t) → getD (stored inputs (3 * t) (inputOf kind 0) (inputOf kind 1) (inputOf kind 2)) (3 * s + i) 0 ≡ inputOf (kindAt terms s) i
+    input-at s i below place (yes same) = rw same (own i place ∙ ap (λ k. inputOf k i) (sym e))
+    input-at s i below place (no other) =
+        stored-before inputs (3 * t) (inputOf kind 0) (inputOf kind 1) (inputOf kind 2) (3 * s + i) (omega arith) ∙ calls .input s i (omega arith) place

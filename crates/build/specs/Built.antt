@@ -1,0 +1,21 @@
+-- The rows of all terms are built.
+-- Main definition: `TableBuilt`. Assumes nothing.
+use mathlib.Core.Path.{_≡_}
+use mathlib.Core.List.{List, []}
+use Prim.Native.Nat.{ℕ, _*_}
+use lib.IntN.{ℤ}
+use Rattle.problem.specs.declared.Term.{Term}
+use Rattle.run.specs.Build.{built}
+use Rattle.table.specs.declared.Step.{Step}
+use Rattle.table.specs.declared.Step.the-variants.{Done}
+use Rattle.table.specs.Held.{tableAt, SoundTo, finished}
+use Rattle.table.specs.Loop.{Kept}
+use Rattle.table.specs.Calls.{Calls}
+
+-- The rows of the terms are those that the rule builds, or the rule refuses one of them; no place behind them has changed; where
+-- all are built, they are sound, and the lookups are noted.
+pub record TableBuilt (terms : List Term) (n : ℕ) (step : Step) (nums₀ dens₀ nums dens : List ℤ) (heads inputs : List ℕ) : Type 0 where
+  pub ends : built terms [] ≡ finished step (tableAt n nums dens)
+  pub kept : Kept 0 (65 * n) nums₀ dens₀ nums dens
+  pub sound : step ≡ Done → SoundTo (65 * n) nums dens
+  pub calls : step ≡ Done → Calls terms n heads inputs

@@ -1,0 +1,20 @@
+-- The code's answer to closing, as the rule's.
+-- Main definitions: `closed`, `Counted`. Assumes nothing.
+use Prim.Native.Nat.{ℕ, _≤_}
+use Rattle.fraction.specs.Made.{Made, made, stopped}
+use Rattle.run.specs.Row.{Table}
+use Rattle.run.specs.Merge.{State, Stop, contradiction, outside}
+use Rattle.close.specs.declared.Closed.{Closed}
+use Rattle.close.specs.declared.Closed.the-variants.{Going, Contradiction, Refused}
+
+-- where the lists hold the table now
+unfoldable pub closed : Closed → Table → Made Stop State
+closed (Going solved) table = made (record { table = table; solved = solved })
+closed Contradiction table = stopped contradiction
+closed (Refused number) table = stopped (outside number)
+
+-- the count of solved unknowns is at most `most`
+unfoldable pub Counted : (most : ℕ) → Closed → Type 0
+Counted most (Going solved) = solved ≤ most
+Counted most Contradiction = Unit {0}
+Counted most (Refused number) = Unit {0}

@@ -1,0 +1,28 @@
+-- What the cursor takes at a bit position.
+-- Main definition: `takenAt`. Assumes nothing.
+use mathlib.Core.Path.{_≡_}
+use mathlib.Core.Bool.{cond}
+use mathlib.Core.List.{List}
+use Prim.Native.Nat.{ℕ, _+_, _*_, _^_, _<_}
+use lib.ListN.{length, getD}
+use lib.Dec.{leb}
+use Rattle.problem.specs.Bits.{field}
+use Rattle.cursor.specs.declared.Cursor.{Cursor}
+use Rattle.cursor.specs.declared.Field.{Field}
+use Rattle.cursor.specs.declared.Field.the-variants.{Got, Ended}
+use Rattle.cursor.specs.declared.Piece.{Piece}
+
+-- 01, The problem record: "The reader works as a bit cursor that gives a field and the cursor after it": the field, if its bits
+-- are there, and the position after it
+unfoldable pub takenAt : List ℕ → (at width : ℕ) → Field
+takenAt bytes at width = cond (leb (at + width) (8 * length bytes)) (Got (field bytes at width) (record { at = at + width })) Ended
+
+-- the three bytes from `first` on as one number
+unfoldable pub windowAt : List ℕ → (first : ℕ) → ℕ
+windowAt bytes first = (getD bytes first 0 * 256 + getD bytes (first + 1) 0) * 256 + getD bytes (first + 2) 0
+
+-- a field that is there, and the cursor after it
+pub record Next (bytes : List ℕ) (at width : ℕ) (piece : Piece) : Type 0 where
+  pub value : piece .value ≡ field bytes at width
+  pub small : piece .value < 2 ^ width
+  pub after : piece .next .at ≡ at + width

@@ -1,0 +1,4 @@
+pub mod Heads
+pub mod Search
+pub mod Shown
+pub mod Unique

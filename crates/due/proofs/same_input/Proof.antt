@@ -1,0 +1,57 @@
+use borrow.Author.Needs.{needs}
+use native.Mathlib.Omega.{arith}
+use Prim.Native.Nat.{_+_, _*_}
+use Rattle.due.specs.Found.{sameInput}
+use Rattle.due.proofs.same_input.Statement.{statement}
+use Rattle.due.proofs.same_input.Tie as tie
+
+mul-t : tie.Need-mul-t
+mul-t c = search needs
+
+add-t : tie.Need-add-t
+add-t c = search needs
+
+shared-slice-read-t : tie.Need-shared-slice-read-t
+shared-slice-read-t c = search needs
+
+cast-t : tie.Need-cast-t
+cast-t c = omega (arith, c .shared-slice-known2 .given (3 * c .before .before .args .i + c .before .before .args .k))
+
+mul-u : tie.Need-mul-u
+mul-u c = search needs
+
+add-u : tie.Need-add-u
+add-u c = search needs
+
+shared-slice-read-u : tie.Need-shared-slice-read-u
+shared-slice-read-u c = search needs
+
+cast-u : tie.Need-cast-u
+cast-u c = omega (arith, c .shared-slice-known3 .given (3 * c .before .before .before .args .j + c .before .before .before .args .k))
+
+same-row-requires : tie.Need-same-row-requires
+same-row-requires c κs =
+    let start = c .before .before .before in
+    let below = start .pre .1 .1 .1 .below in
+    let left = below (start .args .i) (start .args .k) (search needs) (search needs) in
+    let right = below (start .args .j) (start .args .k) (search needs) (search needs) in
+    (search needs, (search needs, start .pre .1 .1 .0))
+
+returns : tie.Need-returns
+unfolding sameInput
+returns c = c .same-row .ensures
+
+pub same-input-spec : {M : Type 1} → statement M
+same-input-spec =
+    tie.close
+    (tie.spec
+    mul-t
+    add-t
+    shared-slice-read-t
+    cast-t
+    mul-u
+    add-u
+    shared-slice-read-u
+    cast-u
+    same-row-requires
+    returns)

@@ -1,0 +1,133 @@
+// The next pair of lookups that closing merges.
+use same::same_row;
+ghost use mathlib.Core.Path.{_≡_};
+ghost use mathlib.Core.List.{List};
+ghost use Prim.Native.Nat.{_+_, _*_, _<_, _≤_};
+ghost use lib.ListN.{length, getD};
+ghost use Rattle.problem.specs.declared.Kind.{Kind};
+ghost use Rattle.problem.specs.declared.Term.{Term};
+ghost use Rattle.problem.specs.Lookup.{alike};
+ghost use Rattle.run.specs.Close.{isDue, due};
+ghost use Rattle.table.specs.Calls.{headOf};
+ghost use Rattle.table.specs.Held.{tableAt, SoundTo};
+ghost use Rattle.due.specs.Found.{symbolOf, Lookups, InputsBelow, sameInput, sameInputs, leftFor, pairOf, Below};
+
+// The pair due, of the smallest right and then the smallest left; or none is.
+pub enum Due {
+    Pair { left: usize, right: usize },
+    Closed,
+}
+
+// Lookups of one function have one head; the head 0 is no lookup.
+fn same_function(heads: &[u16], i: usize, j: usize) -> bool
+    requires { ⌜ (i < length (now heads)) × (j < length (now heads)) ⌝ }
+    ensures { λ r. ⌜ ((k l : Kind) → getD (now (heads .entry)) i 0 ≡ headOf k → getD (now (heads .entry)) j 0 ≡ headOf l → symbolOf k < 256 → symbolOf l < 256 → r ≡ alike k l) ⌝ }
+{
+    let head = heads[i];
+    if head == 0 {
+        return false;
+    }
+    head == heads[j]
+}
+
+// Whether the inputs of i and j at one place have equal rows. Unused places hold 0 on both sides.
+fn same_input(
+    nums: &[i32],
+    dens: &[i32],
+    n: usize,
+    inputs: &[u8],
+    i: usize,
+    j: usize,
+    k: usize,
+) -> bool
+    requires { ⌜ (i < n) × (j < n) × (k < 3) × (n ≤ 64) ⌝ }
+    requires { ⌜ (4160 ≤ length (now nums)) × (4160 ≤ length (now dens)) × (192 ≤ length (now inputs)) ⌝ }
+    requires { ⌜ SoundTo (65 * n) (now nums) (now dens) ⌝ }
+    requires { ⌜ InputsBelow n (now inputs) ⌝ }
+    ensures { λ r. ⌜ r ≡ sameInput (tableAt n (now (nums .entry)) (now (dens .entry))) (now (inputs .entry)) i j k ⌝ }
+{
+    let t = inputs[3 * i + k] as usize;
+    let u = inputs[3 * j + k] as usize;
+    same_row(nums, dens, n, t, u)
+}
+
+fn same_inputs(nums: &[i32], dens: &[i32], n: usize, inputs: &[u8], i: usize, j: usize) -> bool
+    requires { ⌜ (i < n) × (j < n) × (n ≤ 64) ⌝ }
+    requires { ⌜ (4160 ≤ length (now nums)) × (4160 ≤ length (now dens)) × (192 ≤ length (now inputs)) ⌝ }
+    requires { ⌜ SoundTo (65 * n) (now nums) (now dens) ⌝ }
+    requires { ⌜ InputsBelow n (now inputs) ⌝ }
+    ensures { λ r. ⌜ r ≡ sameInputs (tableAt n (now (nums .entry)) (now (dens .entry))) (now (inputs .entry)) i j ⌝ }
+{
+    if !same_input(nums, dens, n, inputs, i, j, 0) {
+        return false;
+    }
+    if !same_input(nums, dens, n, inputs, i, j, 1) {
+        return false;
+    }
+    same_input(nums, dens, n, inputs, i, j, 2)
+}
+
+// 01, Close: lookups with the same kind and symbol, inputs with equal rows place by place, and unequal rows of their own.
+pub fn is_due(
+    nums: &[i32],
+    dens: &[i32],
+    n: usize,
+    heads: &[u16],
+    inputs: &[u8],
+    i: usize,
+    j: usize,
+) -> bool
+    requires { ⌜ (i < j) × (j < n) × (n ≤ 64) ⌝ }
+    requires { ⌜ (4160 ≤ length (now nums)) × (4160 ≤ length (now dens)) ⌝ }
+    requires { ⌜ (64 ≤ length (now heads)) × (192 ≤ length (now inputs)) ⌝ }
+    requires { ⌜ SoundTo (65 * n) (now nums) (now dens) ⌝ }
+    requires { ⌜ InputsBelow n (now inputs) ⌝ }
+    ensures { λ r. ⌜ ((terms : List Term) → Lookups terms n (now (heads .entry)) (now (inputs .entry)) → r ≡ isDue terms (tableAt n (now (nums .entry)) (now (dens .entry))) i j) ⌝ }
+{
+    if !same_function(heads, i, j) {
+        return false;
+    }
+    if !same_inputs(nums, dens, n, inputs, i, j) {
+        return false;
+    }
+    !same_row(nums, dens, n, i, j)
+}
+
+// The pair due of right side j with the smallest left side.
+fn left_due(nums: &[i32], dens: &[i32], n: usize, heads: &[u16], inputs: &[u8], j: usize) -> Due
+    requires { ⌜ (j < n) × (n ≤ 64) ⌝ }
+    requires { ⌜ (4160 ≤ length (now nums)) × (4160 ≤ length (now dens)) ⌝ }
+    requires { ⌜ (64 ≤ length (now heads)) × (192 ≤ length (now inputs)) ⌝ }
+    requires { ⌜ SoundTo (65 * n) (now nums) (now dens) ⌝ }
+    requires { ⌜ InputsBelow n (now inputs) ⌝ }
+    ensures { λ r. ⌜ ((terms : List Term) → Lookups terms n (now (heads .entry)) (now (inputs .entry)) → leftFor terms (tableAt n (now (nums .entry)) (now (dens .entry))) j ≡ pairOf r) ⌝ }
+    ensures { λ r. ⌜ Below n r ⌝ }
+{
+    let mut i: usize = 0;
+    while i < j {
+        if is_due(nums, dens, n, heads, inputs, i, j) {
+            return Due::Pair { left: i, right: j };
+        }
+        i += 1;
+    }
+    Due::Closed
+}
+
+pub fn find_due(nums: &[i32], dens: &[i32], n: usize, heads: &[u16], inputs: &[u8]) -> Due
+    requires { ⌜ n ≤ 64 ⌝ }
+    requires { ⌜ (4160 ≤ length (now nums)) × (4160 ≤ length (now dens)) ⌝ }
+    requires { ⌜ (64 ≤ length (now heads)) × (192 ≤ length (now inputs)) ⌝ }
+    requires { ⌜ SoundTo (65 * n) (now nums) (now dens) ⌝ }
+    requires { ⌜ InputsBelow n (now inputs) ⌝ }
+    ensures { λ r. ⌜ ((terms : List Term) → Lookups terms n (now (heads .entry)) (now (inputs .entry)) → due terms (tableAt n (now (nums .entry)) (now (dens .entry))) ≡ pairOf r) ⌝ }
+    ensures { λ r. ⌜ Below n r ⌝ }
+{
+    let mut j: usize = 0;
+    while j < n {
+        match left_due(nums, dens, n, heads, inputs, j) {
+            Due::Pair { left, right } => return Due::Pair { left, right },
+            Due::Closed => j += 1,
+        }
+    }
+    Due::Closed
+}

@@ -1,0 +1,89 @@
+-- A fold of all rows, in a loop over them: the rows passed are folded, the others stand as they were.
+-- Main definition: `Folding`. Main results: `folding-starts`, `folding-goes-on`, `folding-ends`, `folding-stops`. Assume nothing.
+use mathlib.Core.Path.{_≡_, sym, ap, _∙_}
+use mathlib.Core.Logic.{inl, inr}
+use mathlib.Core.List.{List}
+use Prim.Native.Nat.{ℕ, _+_, _*_, _≤_, _<_}
+use native.Mathlib.Nat.{zero-add}
+use native.Mathlib.Decide.{ℕ-discrete}
+use native.Mathlib.Omega.{arith}
+use lib.IntN.{ℤ}
+use Rattle.fraction.specs.Made.{made, tab}
+use Rattle.fraction.proofs.Making.{tab-stopped}
+use Rattle.run.specs.Row.{TERMS, COLUMNS, Row, row, rowOf}
+use Rattle.run.specs.Merge.{foldedColumn, folded}
+use Rattle.table.specs.declared.Step.{Step}
+use Rattle.table.specs.declared.Step.the-variants.{Done, Refused}
+use Rattle.table.specs.Held.{rowAt, tableAt, SoundTo, finished}
+use Rattle.table.specs.Loop.{Kept, RowMade}
+use Rattle.table.proofs.Columns.{row-held, table-length, kept-itself, kept-row, kept-within, kept-then, sound-beyond}
+use Rattle.table.proofs.Rows.{tab-listed}
+use Rattle.table.proofs.Turns.{finished-done, finished-refused}
+
+-- the rows below t are folded as the rule folds the table at entry, nothing from row t on has changed, and all are sound
+pub record Folding (p : ℕ) (form : Row) (n t : ℕ) (nums₀ dens₀ nums dens : List ℤ) : Type 0 where
+  pub kept : Kept 0 (65 * t) nums₀ dens₀ nums dens
+  pub folded-below : (s : ℕ) → s < t → row (foldedColumn p form (rowOf (tableAt n nums₀ dens₀) s)) ≡ made (rowAt nums dens (65 * s))
+  pub sound : SoundTo (65 * n) nums dens
+
+-- what a fold of all rows leaves
+abbrev pub Folded : (p : ℕ) (form : Row) (n : ℕ) (step : Step) (nums₀ dens₀ nums dens : List ℤ) → Type 0
+Folded p form n step nums₀ dens₀ nums dens =
+    (folded p form (tableAt n nums₀ dens₀) ≡ finished step (tableAt n nums dens)) × (Kept 0 (65 * n) nums₀ dens₀ nums dens × SoundTo (65 * n) nums dens)
+
+module _ {p : ℕ} {form : Row} {n : ℕ} {nums₀ dens₀ : List ℤ} where
+  pub folding-starts : SoundTo (65 * n) nums₀ dens₀ → Folding p form n 0 nums₀ dens₀ nums₀ dens₀
+  folding-starts sound =
+      record {
+        kept = kept-itself 0 (65 * 0) nums₀ dens₀;
+        folded-below = λ s below. absurd (omega arith);
+        sound = sound;
+      }
+
+  module _ {t : ℕ} {nums dens nums′ dens′ : List ℤ} {step : Step} (below : t < n) (folding : Folding p form n t nums₀ dens₀ nums dens) (turn : RowMade (foldedColumn p form (rowAt nums dens (65 * t))) (65 * t) (65 * t + 65) step nums dens nums′ dens′) where
+    -- The rule's row t is the one that the turn reads.
+    row-read : row (foldedColumn p form (rowOf (tableAt n nums₀ dens₀) t)) ≡ finished step (rowAt nums′ dens′ (65 * t))
+    unfolding COLUMNS TERMS
+    row-read =
+        ap (λ r. row (foldedColumn p form r)) (row-held n nums₀ dens₀ t below ∙ sym (kept-row (folding .kept) (65 * t) (inr (omega arith)))) ∙ turn .ends
+
+    all-kept : (m : ℕ) → 65 * t + 65 ≤ m → Kept 0 m nums₀ dens₀ nums′ dens′
+    unfolding COLUMNS TERMS
+    all-kept m most = kept-then (kept-within (folding .kept) 0 m (omega arith) (omega arith)) (kept-within (turn .kept) 0 m (omega arith) most)
+
+    all-sound : SoundTo (65 * n) nums′ dens′
+    unfolding COLUMNS TERMS
+    all-sound = sound-beyond (65 * n) (turn .kept) (turn .sound) (folding .sound)
+
+    -- One row more is folded.
+    pub folding-goes-on : step ≡ Done → Folding p form n (t + 1) nums₀ dens₀ nums′ dens′
+    unfolding finished COLUMNS TERMS
+    folding-goes-on done =
+        record {
+          kept = all-kept (65 * (t + 1)) (omega arith);
+          folded-below = λ s less. by s less (ℕ-discrete s t);
+          sound = all-sound;
+        }
+      where
+        by : (s : ℕ) → s < t + 1 → Dec (s ≡ t) → row (foldedColumn p form (rowOf (tableAt n nums₀ dens₀) s)) ≡ made (rowAt nums′ dens′ (65 * s))
+        by s less (yes same) = rw same (finished-done row-read done)
+        by s less (no other) = folding .folded-below s (omega arith) ∙ ap made (sym (kept-row (turn .kept) (65 * s) (inl (omega arith))))
+
+    -- A row is refused: the fold is.
+    pub folding-stops : {number : ℕ} → step ≡ Refused number → Folded p form n (Refused number) nums₀ dens₀ nums′ dens′
+    unfolding folded finished
+    folding-stops {number} refused = (
+      ap (λ count. tab count 0 (λ s. row (foldedColumn p form (rowOf (tableAt n nums₀ dens₀) s)))) (table-length n nums₀ dens₀)
+          ∙ tab-stopped (λ s. row (foldedColumn p form (rowOf (tableAt n nums₀ dens₀) s))) n 0 t number below (λ s h. (rowAt nums dens (65 * s), rw zero-add (folding .folded-below s h)))
+          (rw zero-add (finished-refused _ row-read refused)),
+      (all-kept (65 * n) (omega arith), all-sound),
+    )
+
+  -- All rows are folded: the table is.
+  pub folding-ends : {t : ℕ} {nums dens : List ℤ} → t ≡ n → Folding p form n t nums₀ dens₀ nums dens → Folded p form n Done nums₀ dens₀ nums dens
+  unfolding folded finished tableAt COLUMNS TERMS
+  folding-ends {t} {nums} {dens} all folding = (
+    ap (λ count. tab count 0 (λ s. row (foldedColumn p form (rowOf (tableAt n nums₀ dens₀) s)))) (table-length n nums₀ dens₀)
+        ∙ tab-listed (λ s. row (foldedColumn p form (rowOf (tableAt n nums₀ dens₀) s))) (λ s. rowAt nums dens (65 * s)) n 0 (λ s below. rw zero-add (folding .folded-below s (omega arith))),
+    (kept-within (folding .kept) 0 (65 * n) (omega arith) (omega arith), folding .sound),
+  )

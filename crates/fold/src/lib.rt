@@ -1,0 +1,124 @@
+// Folding a solved form into the rows of the table.
+use arithmetic::Made;
+use fraction::Fraction;
+use table::COLUMNS;
+use table::Step;
+ghost use mathlib.Core.Path.{_≡_};
+ghost use Prim.Native.Nat.{_+_, _*_, _<_, _≤_};
+ghost use lib.ListN.{length};
+ghost use Rattle.fraction.specs.Exact.{value};
+ghost use Rattle.arithmetic.specs.Values.{Good, Answers};
+ghost use Rattle.run.specs.Merge.{foldedColumn, folded};
+ghost use Rattle.table.specs.Held.{rowAt, tableAt, SoundTo, finished};
+ghost use Rattle.table.specs.Loop.{Kept, RowMade};
+ghost use Rattle.fold.specs.Cell.{gainedBy, foldedCell};
+
+// The old number gains k times the form's: one product, one sum.
+fn gained(k: Fraction, form: Fraction, old: Fraction) -> Made
+    requires { ⌜ Good k ⌝ }
+    requires { ⌜ Good form ⌝ }
+    requires { ⌜ Good old ⌝ }
+    ensures { λ r. ⌜ Answers r (gainedBy (value k) (value form) (value old)) ⌝ }
+{
+    match arithmetic::product(k, form) {
+        Made::Fits(f) => arithmetic::sum(old, f),
+        Made::Refused(number) => Made::Refused(number),
+    }
+}
+
+// Column c of a row; where the form holds 0 the number stands.
+fn folded_cell(c: usize, p: usize, k: Fraction, form: Fraction, old: Fraction) -> Made
+    requires { ⌜ Good k ⌝ }
+    requires { ⌜ Good form ⌝ }
+    requires { ⌜ Good old ⌝ }
+    ensures { λ r. ⌜ Answers r (foldedCell c p (value k) (value form) (value old)) ⌝ }
+{
+    if c == p {
+        return Made::Fits(Fraction { num: 0, den: 1 });
+    }
+    if form.num == 0 {
+        return Made::Fits(old);
+    }
+    gained(k, form, old)
+}
+
+// The columns of the row at base, with the form of p folded in.
+fn fold_columns(
+    nums: &mut [i32],
+    dens: &mut [i32],
+    base: usize,
+    p: usize,
+    form_nums: &[i32],
+    form_dens: &[i32],
+) -> Step
+    requires { ⌜ (p < 64) × (base + 65 ≤ 4160) × (4160 ≤ length (now nums)) × (4160 ≤ length (now dens)) ⌝ }
+    requires { ⌜ (65 ≤ length (now «form_nums»)) × (65 ≤ length (now «form_dens»)) ⌝ }
+    requires { ⌜ SoundTo (base + 65) (now nums) (now dens) ⌝ }
+    requires { ⌜ SoundTo 65 (now «form_nums») (now «form_dens») ⌝ }
+    ensures { λ r. ⌜ RowMade (foldedColumn p (rowAt (now («form_nums» .entry)) (now («form_dens» .entry)) 0) (rowAt (now (nums .entry)) (now (dens .entry)) base)) base (base + 65) r (now (nums .entry)) (now (dens .entry)) (now (nums .exit)) (now (dens .exit)) ⌝ }
+{
+    let k = table::get(nums, dens, base + p);
+    let mut c: usize = 0;
+    while c < COLUMNS {
+        let form = table::get(form_nums, form_dens, c);
+        let old = table::get(nums, dens, base + c);
+        match folded_cell(c, p, k, form, old) {
+            Made::Fits(f) => {
+                table::put(nums, dens, base + c, f);
+                c += 1;
+            }
+            Made::Refused(number) => return Step::Refused(number),
+        }
+    }
+    Step::Done
+}
+
+// The same, where a row whose coefficient at p is 0 is passed over: nothing in it changes.
+fn fold_row(
+    nums: &mut [i32],
+    dens: &mut [i32],
+    base: usize,
+    p: usize,
+    form_nums: &[i32],
+    form_dens: &[i32],
+) -> Step
+    requires { ⌜ (p < 64) × (base + 65 ≤ 4160) × (4160 ≤ length (now nums)) × (4160 ≤ length (now dens)) ⌝ }
+    requires { ⌜ (65 ≤ length (now «form_nums»)) × (65 ≤ length (now «form_dens»)) ⌝ }
+    requires { ⌜ SoundTo (base + 65) (now nums) (now dens) ⌝ }
+    requires { ⌜ SoundTo 65 (now «form_nums») (now «form_dens») ⌝ }
+    ensures { λ r. ⌜ RowMade (foldedColumn p (rowAt (now («form_nums» .entry)) (now («form_dens» .entry)) 0) (rowAt (now (nums .entry)) (now (dens .entry)) base)) base (base + 65) r (now (nums .entry)) (now (dens .entry)) (now (nums .exit)) (now (dens .exit)) ⌝ }
+{
+    let k = table::get(nums, dens, base + p);
+    if k.num == 0 {
+        return Step::Done;
+    }
+    fold_columns(nums, dens, base, p, form_nums, form_dens)
+}
+
+// 01, Merge: "in each row with coefficient k there, that coefficient becomes 0, and each other column gains k times the solved
+// column". The form stands in the first 65 places of its two lists.
+pub fn fold_rows(
+    nums: &mut [i32],
+    dens: &mut [i32],
+    n: usize,
+    p: usize,
+    form_nums: &[i32],
+    form_dens: &[i32],
+) -> Step
+    requires { ⌜ (n ≤ 64) × (p < 64) × (4160 ≤ length (now nums)) × (4160 ≤ length (now dens)) ⌝ }
+    requires { ⌜ (65 ≤ length (now «form_nums»)) × (65 ≤ length (now «form_dens»)) ⌝ }
+    requires { ⌜ SoundTo (65 * n) (now nums) (now dens) ⌝ }
+    requires { ⌜ SoundTo 65 (now «form_nums») (now «form_dens») ⌝ }
+    ensures { λ r. ⌜ folded p (rowAt (now («form_nums» .entry)) (now («form_dens» .entry)) 0) (tableAt n (now (nums .entry)) (now (dens .entry))) ≡ finished r (tableAt n (now (nums .exit)) (now (dens .exit))) ⌝ }
+    ensures { λ r. ⌜ Kept 0 (65 * n) (now (nums .entry)) (now (dens .entry)) (now (nums .exit)) (now (dens .exit)) ⌝ }
+    ensures { λ r. ⌜ SoundTo (65 * n) (now (nums .exit)) (now (dens .exit)) ⌝ }
+{
+    let mut t: usize = 0;
+    while t < n {
+        match fold_row(nums, dens, COLUMNS * t, p, form_nums, form_dens) {
+            Step::Done => t += 1,
+            Step::Refused(number) => return Step::Refused(number),
+        }
+    }
+    Step::Done
+}

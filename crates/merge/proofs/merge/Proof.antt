@@ -1,0 +1,108 @@
+-- `merge::merge` meets its contract: the difference, then what it settles.
+-- Assumes nothing.
+use mathlib.Core.Path.{_∙_}
+use native.Mathlib.Omega.{arith}
+use Prim.Native.Nat.{_+_, _*_}
+use denote.Ref.{now}
+use Rattle.table.specs.Held.{tableAt}
+use Rattle.table.proofs.Columns.{sound-zeros, sound-fewer, kept-itself}
+use Rattle.table.proofs.Turns.{finished-done, finished-refused}
+use Rattle.merge.proofs.Steps.{difference-read, difference-made, difference-refused}
+use borrow.Author.Needs.{needs}
+use Rattle.merge.proofs.merge.Statement.{statement}
+use Rattle.merge.proofs.merge.Tie as tie
+
+mul-difference : tie.Need-mul-difference
+mul-difference c = search needs
+
+mul-difference-2 : tie.Need-mul-difference-2
+mul-difference-2 c = search needs
+
+slice-aggregate-difference : tie.Need-slice-aggregate-difference
+slice-aggregate-difference c = search needs
+
+slice-aggregate-difference-2 : tie.Need-slice-aggregate-difference-2
+slice-aggregate-difference-2 c = search needs
+
+difference-requires : tie.Need-difference-requires
+difference-requires c κs =
+    let start = c .before .before .before .before in (
+      omega arith,
+      ((omega arith, omega arith), (sound-fewer _ (omega arith) (start .pre .1), (sound-fewer _ (omega arith) (start .pre .1), sound-zeros 65))),
+    )
+
+enum-told : tie.Need-enum-told
+enum-told c = search needs
+
+slice-aggregate-settle : tie.Need-slice-aggregate-settle
+slice-aggregate-settle c = search needs
+
+slice-aggregate-settle-2 : tie.Need-slice-aggregate-settle-2
+slice-aggregate-settle-2 c = search needs
+
+settle-requires : tie.Need-settle-requires
+settle-requires c κs =
+    let made = c .before .before .before .before .before .before .before .before in
+    let start = made .before .before .before .before .before in
+    let kept = made .difference .ensures .kept in (
+      (start .pre .0 .0, start .pre .0 .3, start .pre .0 .4),
+      ((omega (arith, kept .nums-length), omega (arith, kept .dens-length)), (start .pre .1, made .difference .ensures .sound)),
+    )
+
+enum-known-number : tie.Need-enum-known-number
+enum-known-number c = search needs
+
+same-length : tie.Need-same-length
+same-length c = search needs
+
+same-length-2 : tie.Need-same-length-2
+same-length-2 c = search needs
+
+returns : tie.Need-returns
+returns c =
+    let settled = c .before .before .before .before in
+    let told = settled .before .before .before .before .before in
+    let made = told .before .before .before .before in
+    let start = made .before .before .before .before .before in
+    let a = start .args in (
+      λ solved. difference-made (a .t) (a .u) (tableAt (a .n) (now (a .nums)) (now (a .dens)))
+          (difference-read (a .n) (a .t) (a .u) (now (a .nums)) (now (a .dens)) (start .pre .0 .1) (start .pre .0 .2) ∙ finished-done (made .difference .ensures .ends) (told .enum-told .given .1)) solved ∙ settled .settle .ensures .0 solved,
+      settled .settle .ensures .1,
+    )
+
+same-length-3 : tie.Need-same-length-3
+same-length-3 c = search needs
+
+same-length-4 : tie.Need-same-length-4
+same-length-4 c = search needs
+
+returns-2 : tie.Need-returns-2
+returns-2 c =
+    let made = c .before .before .before .before .before in
+    let start = made .before .before .before .before .before in
+    let a = start .args in (
+      difference-refused (a .t) (a .u) (tableAt (a .n) (now (a .nums)) (now (a .dens)))
+          (difference-read (a .n) (a .t) (a .u) (now (a .nums)) (now (a .dens)) (start .pre .0 .1) (start .pre .0 .2) ∙ finished-refused _ (made .difference .ensures .ends) (c .before .number .given .1)) _,
+      (kept-itself 0 (65 * a .n) (now (a .nums)) (now (a .dens)), start .pre .1),
+    )
+
+pub merge-spec : {M : Type 1} → statement M
+merge-spec =
+    tie.close
+    (tie.spec
+    mul-difference
+    mul-difference-2
+    slice-aggregate-difference
+    slice-aggregate-difference-2
+    difference-requires
+    enum-told
+    slice-aggregate-settle
+    slice-aggregate-settle-2
+    settle-requires
+    enum-known-number
+    same-length
+    same-length-2
+    returns
+    same-length-3
+    same-length-4
+    returns-2)

@@ -1,0 +1,15 @@
+-- The code's answer to a merge, as the rule's.
+-- Main definition: `merged`. Assumes nothing.
+use Prim.Native.Nat.{ℕ, suc}
+use Rattle.fraction.specs.Made.{Made, made, stopped}
+use Rattle.run.specs.Row.{Table}
+use Rattle.run.specs.Merge.{State, Stop, contradiction, outside}
+use Rattle.merge.specs.declared.Merged.{Merged}
+use Rattle.merge.specs.declared.Merged.the-variants.{Nothing, Solved, Contradiction, Refused}
+
+-- where `solved` unknowns were solved before, and the lists hold the table now
+unfoldable pub merged : Merged → (solved : ℕ) → Table → Made Stop State
+merged Nothing solved table = made (record { table = table; solved = solved })
+merged Solved solved table = made (record { table = table; solved = suc solved })
+merged Contradiction solved table = stopped contradiction
+merged (Refused number) solved table = stopped (outside number)

@@ -1,0 +1,102 @@
+// Merging two terms: the difference of their rows, the unknown that it solves, and the fold into every row.
+use solve::Found;
+use table::COLUMNS;
+use table::Step;
+use table::TERMS;
+ghost use mathlib.Core.Path.{_≡_};
+ghost use Prim.Native.Nat.{ℕ, _*_, _<_, _≤_};
+ghost use lib.ListN.{length};
+ghost use Rattle.fraction.specs.Made.{because};
+ghost use Rattle.run.specs.Row.{TERMS};
+ghost use Rattle.run.specs.Merge.{pivot, outside};
+ghost use Rattle.run.specs.Merge as rule;
+ghost use Rattle.run.specs.Run.{byNumber};
+ghost use Rattle.table.specs.Held.{rowAt, tableAt, SoundTo};
+ghost use Rattle.table.specs.Loop.{Kept};
+ghost use Rattle.merge.specs.Outcome.{merged};
+
+// What a merge does: nothing, where the rows are equal; one unknown more is solved; it stops, since no reading is left, or with
+// the number of a refusal.
+pub enum Merged {
+    Nothing,
+    Solved,
+    Contradiction,
+    Refused(u8),
+}
+
+// The unknown p is solved from the difference, and its form folded into every row.
+fn solve(
+    nums: &mut [i32],
+    dens: &mut [i32],
+    n: usize,
+    p: usize,
+    d_nums: &mut [i32],
+    d_dens: &mut [i32],
+) -> Merged
+    requires { ⌜ (n ≤ 64) × (p < 64) × (4160 ≤ length (now nums)) × (4160 ≤ length (now dens)) ⌝ }
+    requires { ⌜ (65 ≤ length (now «d_nums»)) × (65 ≤ length (now «d_dens»)) ⌝ }
+    requires { ⌜ SoundTo (65 * n) (now nums) (now dens) ⌝ }
+    requires { ⌜ SoundTo 65 (now «d_nums») (now «d_dens») ⌝ }
+    ensures { λ r. ⌜ ((solved : ℕ) → because outside (rule.solve p (rowAt (now («d_nums» .entry)) (now («d_dens» .entry)) 0) (record { table = tableAt n (now (nums .entry)) (now (dens .entry)); solved = solved })) ≡ merged r solved (tableAt n (now (nums .exit)) (now (dens .exit)))) ⌝ }
+    ensures { λ r. ⌜ Kept 0 (65 * n) (now (nums .entry)) (now (dens .entry)) (now (nums .exit)) (now (dens .exit)) ⌝ }
+    ensures { λ r. ⌜ SoundTo (65 * n) (now (nums .exit)) (now (dens .exit)) ⌝ }
+{
+    match solve::solve_for(d_nums, d_dens, p) {
+        Step::Done => match fold::fold_rows(nums, dens, n, p, d_nums, d_dens) {
+            Step::Done => Merged::Solved,
+            Step::Refused(number) => Merged::Refused(number),
+        },
+        Step::Refused(number) => Merged::Refused(number),
+    }
+}
+
+// 01, Merge: "All zero: nothing. Only the constant nonzero: contradictory, stop. Otherwise the highest-numbered term (..) is solved".
+fn settle(
+    nums: &mut [i32],
+    dens: &mut [i32],
+    n: usize,
+    d_nums: &mut [i32],
+    d_dens: &mut [i32],
+) -> Merged
+    requires { ⌜ (n ≤ 64) × (4160 ≤ length (now nums)) × (4160 ≤ length (now dens)) ⌝ }
+    requires { ⌜ (65 ≤ length (now «d_nums»)) × (65 ≤ length (now «d_dens»)) ⌝ }
+    requires { ⌜ SoundTo (65 * n) (now nums) (now dens) ⌝ }
+    requires { ⌜ SoundTo 65 (now «d_nums») (now «d_dens») ⌝ }
+    ensures { λ r. ⌜ ((solved : ℕ) → rule.settle (rowAt (now («d_nums» .entry)) (now («d_dens» .entry)) 0) (record { table = tableAt n (now (nums .entry)) (now (dens .entry)); solved = solved }) (pivot byNumber TERMS (rowAt (now («d_nums» .entry)) (now («d_dens» .entry)) 0)) ≡ merged r solved (tableAt n (now (nums .exit)) (now (dens .exit)))) ⌝ }
+    ensures { λ r. ⌜ Kept 0 (65 * n) (now (nums .entry)) (now (dens .entry)) (now (nums .exit)) (now (dens .exit)) ⌝ }
+    ensures { λ r. ⌜ SoundTo (65 * n) (now (nums .exit)) (now (dens .exit)) ⌝ }
+{
+    match solve::pivot(d_nums, d_dens) {
+        Found::At(p) => solve(nums, dens, n, p, d_nums, d_dens),
+        Found::Nothing => {
+            let constant = table::get(d_nums, d_dens, TERMS);
+            if constant.num == 0 {
+                return Merged::Nothing;
+            }
+            Merged::Contradiction
+        }
+    }
+}
+
+// 01, Merge: the rows of the terms t and u are merged in the table of n rows.
+pub fn merge(nums: &mut [i32], dens: &mut [i32], n: usize, t: usize, u: usize) -> Merged
+    requires { ⌜ (n ≤ 64) × (t < n) × (u < n) × (4160 ≤ length (now nums)) × (4160 ≤ length (now dens)) ⌝ }
+    requires { ⌜ SoundTo (65 * n) (now nums) (now dens) ⌝ }
+    ensures { λ r. ⌜ ((solved : ℕ) → rule.merge byNumber t u (record { table = tableAt n (now (nums .entry)) (now (dens .entry)); solved = solved }) ≡ merged r solved (tableAt n (now (nums .exit)) (now (dens .exit)))) ⌝ }
+    ensures { λ r. ⌜ Kept 0 (65 * n) (now (nums .entry)) (now (dens .entry)) (now (nums .exit)) (now (dens .exit)) ⌝ }
+    ensures { λ r. ⌜ SoundTo (65 * n) (now (nums .exit)) (now (dens .exit)) ⌝ }
+{
+    let mut d_nums = [0i32; COLUMNS];
+    let mut d_dens = [1i32; COLUMNS];
+    match solve::difference(
+        nums,
+        dens,
+        COLUMNS * t,
+        COLUMNS * u,
+        &mut d_nums,
+        &mut d_dens,
+    ) {
+        Step::Done => settle(nums, dens, n, &mut d_nums, &mut d_dens),
+        Step::Refused(number) => Merged::Refused(number),
+    }
+}

@@ -1,0 +1,147 @@
+// The reader: from a byte string to the problem that it holds, or to the refusal that it gets.
+mod walk;
+
+use cursor::Cursor;
+use problem::Kind;
+use problem::Term;
+use record::TermRead;
+use record::read_term;
+ghost use mathlib.Core.Path.{_≡_};
+ghost use Prim.Native.Nat.{_≤_};
+ghost use lib.ListN.{length};
+ghost use Rattle.fraction.specs.Made.{made};
+ghost use Rattle.problem.specs.Problem.{termAt};
+ghost use Rattle.reader.specs.Reads.{HeaderRead, Framed, readOf};
+ghost use Rattle.reader.specs.Held.{TermHeld, PairHeld, pairOf, pairThere};
+
+const SHORT: u8 = 2;
+
+const COUNT: u8 = 3;
+
+const LENGTH: u8 = 4;
+
+const TERM: u8 = 5;
+
+const PAIR: u8 = 6;
+
+// The counts of terms and assumptions, and the sides of the goal.
+pub struct Header {
+    pub n: usize,
+    pub m: usize,
+    pub left: usize,
+    pub right: usize,
+}
+
+// What reading a byte string answers. A sound problem is answered by its header: an enum holds no array, so its terms and
+// pairs stay in the bytes, where `term_at` and `pair_at` read them.
+pub enum Read {
+    Sound(Header),
+    Refused { number: u8, place: usize },
+}
+
+// The two terms of a pair.
+pub struct Sides {
+    pub left: usize,
+    pub right: usize,
+}
+
+fn read_header(bytes: &[u8]) -> Header
+    requires { ⌜ 4 ≤ length (now bytes) ⌝ }
+    ensures { λ r. ⌜ HeaderRead (now (bytes .entry)) r ⌝ }
+{
+    let start = Cursor { at: 0 };
+    let n = start.read(bytes, 8);
+    let m = n.next.read(bytes, 8);
+    let left = m.next.read(bytes, 8);
+    let right = left.next.read(bytes, 8);
+    Header {
+        n: n.value as usize,
+        m: m.value as usize,
+        left: left.value as usize,
+        right: right.value as usize,
+    }
+}
+
+fn refused(number: u8, place: usize) -> Read
+    ensures { λ r. ⌜ r ≡ Read.Refused number place ⌝ }
+{
+    Read::Refused {
+        number: number,
+        place: place,
+    }
+}
+
+// Tests 5 and 6, of a byte string whose length is that of its counts.
+fn judge(bytes: &[u8], header: Header) -> Read
+    requires { ⌜ Framed (now bytes) header ⌝ }
+    ensures { λ r. ⌜ r ≡ readOf (now (bytes .entry)) ⌝ }
+{
+    let n = header.n;
+    let m = header.m;
+    let faulty = walk::first_faulty(bytes, n);
+    if faulty < n {
+        return refused(TERM, faulty);
+    }
+    if !walk::both_below(bytes, n, 16) {
+        return refused(PAIR, 0);
+    }
+    let beyond = walk::first_beyond(bytes, n, m);
+    if beyond <= m {
+        return refused(PAIR, beyond);
+    }
+    Read::Sound(header)
+}
+
+// Tests 2 to 6 in their order.
+pub fn read_problem(bytes: &[u8]) -> Read
+    ensures { λ r. ⌜ r ≡ readOf (now (bytes .entry)) ⌝ }
+{
+    if bytes.len() < 4 {
+        return refused(SHORT, 0);
+    }
+    let header = read_header(bytes);
+    let n = header.n;
+    let m = header.m;
+    if n < 1 {
+        return refused(COUNT, 0);
+    }
+    if 64 < n {
+        return refused(COUNT, 0);
+    }
+    if 64 < m {
+        return refused(COUNT, 0);
+    }
+    if bytes.len() != 4 + 8 * n + 2 * m {
+        return refused(LENGTH, 0);
+    }
+    judge(bytes, header)
+}
+
+// Term `t` of a problem that was read.
+pub fn term_at(bytes: &[u8], t: usize) -> Term
+    requires { ⌜ TermHeld (now bytes) t ⌝ }
+    ensures { λ r. ⌜ made r ≡ termAt (now (bytes .entry)) t ⌝ }
+{
+    match read_term(bytes, t) {
+        TermRead::Sound(term) => term,
+        TermRead::Faulty => Term {
+            kind: Kind::Variable { symbol: 0 },
+        },
+    }
+}
+
+// The sides of pair `k`, from 1, of a problem of `n` terms that was read.
+pub fn pair_at(bytes: &[u8], n: usize, k: usize) -> Sides
+    requires { ⌜ PairHeld (now bytes) n k ⌝ }
+    ensures { λ r. ⌜ made (pairOf r) ≡ pairThere (now (bytes .entry)) n k ⌝ }
+{
+    let start = Cursor {
+        at: 32 + 64 * n + 16 * (k - 1),
+    };
+    let left = start.read(bytes, 8);
+    let right = left.next.read(bytes, 8);
+    Sides {
+        left: left.value as usize,
+        right: right.value as usize,
+    }
+}

@@ -1,0 +1,4 @@
+pub mod Chain
+pub mod Judging
+pub mod Mantissa
+pub mod Unique

@@ -1,0 +1,39 @@
+-- What reading a term record answers.
+-- Main definition: `termRead`. Assumes nothing.
+use mathlib.Core.Path.{_≡_}
+use mathlib.Core.Bool.{Bool, _&&_, cond}
+use mathlib.Core.List.{List, [], _∷_}
+use mathlib.Core.Option.{Option, some, none}
+use Prim.Native.Nat.{ℕ, _+_, _*_, _<_}
+use lib.Dec.{eqb, ltb}
+use Rattle.problem.specs.declared.Kind.{Kind}
+use Rattle.problem.specs.Record.{Fields, fieldsAt, every, kindOf}
+use Rattle.record.specs.declared.fields.Fields as held
+use Rattle.record.specs.declared.TermRead.{TermRead}
+use Rattle.record.specs.declared.TermRead.the-variants.{Sound, Faulty}
+
+-- the fields that the code holds, as the rule has them
+unfoldable pub told : held.Fields → Fields
+told f = record { kind = f .kind; symbol = f .symbol; input1 = f .input1; input2 = f .input2; input3 = f .input3; mantissa = f .mantissa; shift = f .shift; padding = f .padding }
+
+pub record FieldsRead (bytes : List ℕ) (at : ℕ) (f : held.Fields) : Type 0 where
+  pub same : told f ≡ fieldsAt bytes at
+  pub small : f .shift < 16
+
+unfoldable pub zeros : List ℕ → Bool
+zeros = every (λ x. eqb x 0)
+
+unfoldable pub below : (own : ℕ) → List ℕ → Bool
+below own = every (λ i. ltb i own)
+
+unfoldable pub judged : Option Kind → TermRead
+judged none = Faulty
+judged (some kind) = Sound (record { kind = kind })
+
+unfoldable pub checkedAs : (unused inputs : Bool) → Kind → TermRead
+checkedAs unused inputs kind = judged (cond (unused && inputs) (some kind) none)
+
+-- 01: "A record is faulty with kind 0 or 9 to 15, with a nonzero unused field or padding, or with an input not below its own
+-- number"; term t's record is 64 bits after the header and t records
+unfoldable pub termRead : List ℕ → (own : ℕ) → TermRead
+termRead bytes own = judged (kindOf own (fieldsAt bytes (32 + 64 * own)))

@@ -1,0 +1,237 @@
+// The term that a record holds, or that the record is faulty.
+mod fields;
+
+use fields::Fields;
+use fields::read_fields;
+use fraction::Fraction;
+use problem::Kind;
+use problem::Term;
+ghost use mathlib.Core.Path.{_≡_};
+ghost use mathlib.Core.List.{_∷_, []};
+ghost use Prim.Native.Nat.{_+_, _*_, _≤_, _<_, _^_};
+ghost use lib.ListN.{length};
+ghost use lib.IntN.{pos};
+ghost use Rattle.problem.specs.Bits.{signed16};
+ghost use Rattle.problem.specs.Record.{scaled, kindOf};
+ghost use Rattle.record.specs.Terms.{told, zeros, below, judged, checkedAs, termRead};
+
+pub enum TermRead {
+    Sound(Term),
+    Faulty,
+}
+
+// The mantissa with its sign.
+fn signed(mantissa: u16) -> i32
+    ensures { λ r. ⌜ r ≡ signed16 mantissa ⌝ }
+{
+    if mantissa < 32768 {
+        mantissa as i32
+    } else {
+        mantissa as i32 - 65536
+    }
+}
+
+fn power(shift: u8) -> i32
+    requires { ⌜ shift < 16 ⌝ }
+    ensures { λ r. ⌜ r ≡ pos (2 ^ shift) ⌝ }
+{
+    (1u32 << (shift as u32)) as i32
+}
+
+// Mantissa over 2^shift, as the record has it.
+fn fraction_of(f: Fields) -> Fraction
+    requires { ⌜ f .shift < 16 ⌝ }
+    ensures { λ r. ⌜ r ≡ scaled (told f) ⌝ }
+{
+    Fraction {
+        num: signed(f.mantissa),
+        den: power(f.shift),
+    }
+}
+
+// Whether the fields that a kind does not use are zero; a field that it uses is handed over as 0.
+fn all_zero(
+    symbol: u8,
+    input1: u8,
+    input2: u8,
+    input3: u8,
+    mantissa: u16,
+    shift: u8,
+    padding: u8,
+) -> bool
+    ensures { λ r. ⌜ r ≡ zeros (symbol ∷ input1 ∷ input2 ∷ input3 ∷ mantissa ∷ shift ∷ padding ∷ []) ⌝ }
+{
+    let inputs = symbol as u32 + input1 as u32 + input2 as u32 + input3 as u32;
+    inputs + mantissa as u32 + shift as u32 + padding as u32 == 0
+}
+
+fn below1(own: usize, input: u8) -> bool
+    ensures { λ r. ⌜ r ≡ below own (input ∷ []) ⌝ }
+{
+    (input as usize) < own
+}
+
+fn below2(own: usize, first: u8, second: u8) -> bool
+    ensures { λ r. ⌜ r ≡ below own (first ∷ second ∷ []) ⌝ }
+{
+    if (first as usize) < own {
+        below1(own, second)
+    } else {
+        false
+    }
+}
+
+fn below3(own: usize, first: u8, second: u8, third: u8) -> bool
+    ensures { λ r. ⌜ r ≡ below own (first ∷ second ∷ third ∷ []) ⌝ }
+{
+    if (first as usize) < own {
+        below2(own, second, third)
+    } else {
+        false
+    }
+}
+
+fn checked(unused: bool, inputs: bool, kind: Kind) -> TermRead
+    ensures { λ r. ⌜ r ≡ checkedAs unused inputs kind ⌝ }
+{
+    if unused {
+        if inputs {
+            return TermRead::Sound(Term { kind: kind });
+        }
+    }
+    TermRead::Faulty
+}
+
+fn variable(own: usize, f: Fields) -> TermRead
+    requires { ⌜ f .kind ≡ 1 ⌝ }
+    ensures { λ r. ⌜ r ≡ judged (kindOf own (told f)) ⌝ }
+{
+    let unused = all_zero(
+        0,
+        f.input1,
+        f.input2,
+        f.input3,
+        f.mantissa,
+        f.shift,
+        f.padding,
+    );
+    checked(unused, true, Kind::Variable { symbol: f.symbol })
+}
+
+fn constant(own: usize, f: Fields) -> TermRead
+    requires { ⌜ (f .kind ≡ 2) × (f .shift < 16) ⌝ }
+    ensures { λ r. ⌜ r ≡ judged (kindOf own (told f)) ⌝ }
+{
+    let unused = all_zero(f.symbol, f.input1, f.input2, f.input3, 0, 0, f.padding);
+    let value = fraction_of(f);
+    checked(unused, true, Kind::Constant { value: value })
+}
+
+fn gain(own: usize, f: Fields) -> TermRead
+    requires { ⌜ (f .kind ≡ 3) × (f .shift < 16) ⌝ }
+    ensures { λ r. ⌜ r ≡ judged (kindOf own (told f)) ⌝ }
+{
+    let unused = all_zero(f.symbol, 0, f.input2, f.input3, 0, 0, f.padding);
+    let inputs = below1(own, f.input1);
+    let factor = fraction_of(f);
+    let kind = Kind::Gain {
+        factor: factor,
+        input: f.input1 as usize,
+    };
+    checked(unused, inputs, kind)
+}
+
+fn sum(own: usize, f: Fields) -> TermRead
+    requires { ⌜ f .kind ≡ 4 ⌝ }
+    ensures { λ r. ⌜ r ≡ judged (kindOf own (told f)) ⌝ }
+{
+    let unused = all_zero(f.symbol, 0, 0, f.input3, f.mantissa, f.shift, f.padding);
+    let inputs = below2(own, f.input1, f.input2);
+    let kind = Kind::Sum {
+        left: f.input1 as usize,
+        right: f.input2 as usize,
+    };
+    checked(unused, inputs, kind)
+}
+
+fn difference(own: usize, f: Fields) -> TermRead
+    requires { ⌜ f .kind ≡ 5 ⌝ }
+    ensures { λ r. ⌜ r ≡ judged (kindOf own (told f)) ⌝ }
+{
+    let unused = all_zero(f.symbol, 0, 0, f.input3, f.mantissa, f.shift, f.padding);
+    let inputs = below2(own, f.input1, f.input2);
+    let kind = Kind::Difference {
+        left: f.input1 as usize,
+        right: f.input2 as usize,
+    };
+    checked(unused, inputs, kind)
+}
+
+fn lookup1(own: usize, f: Fields) -> TermRead
+    requires { ⌜ f .kind ≡ 6 ⌝ }
+    ensures { λ r. ⌜ r ≡ judged (kindOf own (told f)) ⌝ }
+{
+    let unused = all_zero(0, 0, f.input2, f.input3, f.mantissa, f.shift, f.padding);
+    let inputs = below1(own, f.input1);
+    let kind = Kind::Lookup1 {
+        symbol: f.symbol,
+        input: f.input1 as usize,
+    };
+    checked(unused, inputs, kind)
+}
+
+fn lookup2(own: usize, f: Fields) -> TermRead
+    requires { ⌜ f .kind ≡ 7 ⌝ }
+    ensures { λ r. ⌜ r ≡ judged (kindOf own (told f)) ⌝ }
+{
+    let unused = all_zero(0, 0, 0, f.input3, f.mantissa, f.shift, f.padding);
+    let inputs = below2(own, f.input1, f.input2);
+    let kind = Kind::Lookup2 {
+        symbol: f.symbol,
+        first: f.input1 as usize,
+        second: f.input2 as usize,
+    };
+    checked(unused, inputs, kind)
+}
+
+fn lookup3(own: usize, f: Fields) -> TermRead
+    requires { ⌜ f .kind ≡ 8 ⌝ }
+    ensures { λ r. ⌜ r ≡ judged (kindOf own (told f)) ⌝ }
+{
+    let unused = all_zero(0, 0, 0, 0, f.mantissa, f.shift, f.padding);
+    let inputs = below3(own, f.input1, f.input2, f.input3);
+    let kind = Kind::Lookup3 {
+        symbol: f.symbol,
+        first: f.input1 as usize,
+        second: f.input2 as usize,
+        third: f.input3 as usize,
+    };
+    checked(unused, inputs, kind)
+}
+
+fn by_kind(own: usize, f: Fields) -> TermRead
+    requires { ⌜ f .shift < 16 ⌝ }
+    ensures { λ r. ⌜ r ≡ judged (kindOf own (told f)) ⌝ }
+{
+    let kind = f.kind;
+    match kind {
+        1 => variable(own, f),
+        2 => constant(own, f),
+        3 => gain(own, f),
+        4 => sum(own, f),
+        5 => difference(own, f),
+        6 => lookup1(own, f),
+        7 => lookup2(own, f),
+        8 => lookup3(own, f),
+        _ => TermRead::Faulty,
+    }
+}
+
+// The term with the number `own`, whose record lies within the bytes.
+pub fn read_term(bytes: &[u8], own: usize) -> TermRead
+    requires { ⌜ (own < 64) × (12 + 8 * own ≤ length (now bytes)) ⌝ }
+    ensures { λ r. ⌜ r ≡ termRead (now (bytes .entry)) own ⌝ }
+{
+    let f = read_fields(bytes, 32 + 64 * own);
+    by_kind(own, f)
+}

@@ -1,0 +1,30 @@
+use borrow.Author.Needs.{needs}
+use native.Mathlib.Omega.{arith}
+use mathlib.Core.Path.{sym, _∙_}
+use Rattle.table.proofs.Columns.{sound-fewer}
+use Rattle.same.proofs.Equal.{row-itself, same-rows}
+use Rattle.same.proofs.same_row.Statement.{statement}
+use Rattle.same.proofs.same_row.Tie as tie
+
+returns : tie.Need-returns
+returns c = sym (rw (c .if1 .taken) (row-itself _ _))
+
+mul-same-places : tie.Need-mul-same-places
+mul-same-places c = search needs
+
+mul-same-places-2 : tie.Need-mul-same-places-2
+mul-same-places-2 c = search needs
+
+same-places-requires : tie.Need-same-places-requires
+same-places-requires c κs =
+    let sound = c .before .pre .1 .1 in
+    (search needs, (search needs, (sound-fewer _ (omega arith) sound, sound-fewer _ (omega arith) sound)))
+
+returns-2 : tie.Need-returns-2
+returns-2 c =
+    let args = c .before .before .args in
+    c .same-places .ensures ∙ sym (same-rows (args .n) (args .nums .now) (args .dens .now) (args .t) (args .u) (search needs) (search needs))
+
+pub same-row-spec : {M : Type 1} → statement M
+same-row-spec =
+    tie.close (tie.spec returns mul-same-places mul-same-places-2 same-places-requires returns-2)

@@ -1,0 +1,58 @@
+// When two terms have equal rows.
+use fraction::Fraction;
+use table::COLUMNS;
+use table::get;
+ghost use mathlib.Core.Path.{_≡_};
+ghost use Prim.Native.Nat.{_+_, _*_, _<_, _≤_};
+ghost use lib.ListN.{length};
+ghost use Rattle.fraction.specs.Exact.{value, eqℚ};
+ghost use Rattle.arithmetic.specs.Values.{Good};
+ghost use Rattle.run.specs.Row.{COLUMNS, sameTo, sameRow};
+ghost use Rattle.table.specs.Held.{rowAt, tableAt, SoundTo};
+
+// In lowest terms, equal fractions have the same two numbers.
+fn same_fraction(a: Fraction, b: Fraction) -> bool
+    requires { ⌜ Good a ⌝ }
+    requires { ⌜ Good b ⌝ }
+    ensures { λ r. ⌜ r ≡ eqℚ (value a) (value b) ⌝ }
+{
+    if a.num == b.num {
+        if a.den == b.den {
+            return true;
+        }
+    }
+    false
+}
+
+// The rows at places left and right, from the last column down to the first difference.
+fn same_places(nums: &[i32], dens: &[i32], left: usize, right: usize) -> bool
+    requires { ⌜ (left + 65 ≤ 4160) × (right + 65 ≤ 4160) ⌝ }
+    requires { ⌜ (4160 ≤ length (now nums)) × (4160 ≤ length (now dens)) ⌝ }
+    requires { ⌜ SoundTo (left + 65) (now nums) (now dens) ⌝ }
+    requires { ⌜ SoundTo (right + 65) (now nums) (now dens) ⌝ }
+    ensures { λ r. ⌜ r ≡ sameTo COLUMNS (rowAt (now (nums .entry)) (now (dens .entry)) left) (rowAt (now (nums .entry)) (now (dens .entry)) right) ⌝ }
+{
+    let mut c = COLUMNS;
+    while 0 < c {
+        c -= 1;
+        let a = get(nums, dens, left + c);
+        let b = get(nums, dens, right + c);
+        if !same_fraction(a, b) {
+            return false;
+        }
+    }
+    true
+}
+
+// Whether terms t and u, of n, have equal rows.
+pub fn same_row(nums: &[i32], dens: &[i32], n: usize, t: usize, u: usize) -> bool
+    requires { ⌜ (t < n) × (u < n) × (n ≤ 64) ⌝ }
+    requires { ⌜ (4160 ≤ length (now nums)) × (4160 ≤ length (now dens)) ⌝ }
+    requires { ⌜ SoundTo (65 * n) (now nums) (now dens) ⌝ }
+    ensures { λ r. ⌜ r ≡ sameRow (tableAt n (now (nums .entry)) (now (dens .entry))) t u ⌝ }
+{
+    if t == u {
+        return true;
+    }
+    same_places(nums, dens, COLUMNS * t, COLUMNS * u)
+}

@@ -1,0 +1,4 @@
+pub mod Cells
+pub mod Columns
+pub mod Pivots
+pub mod Unique

@@ -1,0 +1,135 @@
+-- `solve::difference` meets its contract. The loop's invariant: the columns passed are those of the rule.
+-- Assumes nothing.
+use mathlib.Core.Path.{sym, subst}
+use Prim.Native.Nat.{_-_, _≤_}
+use native.Mathlib.Nat.{zero-add}
+use native.Mathlib.Omega.{arith}
+use denote.Ref.{now}
+use Rattle.fraction.specs.Limits.{minus}
+use Rattle.arithmetic.specs.Values.{Good, Answers}
+use Rattle.run.specs.Row.{COLUMNS, TERMS, column}
+use Rattle.table.specs.Held.{rowAt}
+use Rattle.table.specs.Loop.{Making}
+use Rattle.table.proofs.Rows.{making-starts}
+use Rattle.table.proofs.Turns.{turn-stores, turn-stops, turns-end}
+use Rattle.solve.proofs.Columns.{column-differs}
+use borrow.Author.Needs.{needs}
+use Rattle.solve.proofs.difference.Statement.{statement}
+use Rattle.solve.proofs.difference.Tie as tie
+
+abbrev Inv-loop : tie.InvT-loop
+Inv-loop nums dens left right d-nums₀ d-dens₀ c₀ d-nums d-dens c =
+    (c ≤ 65) × Making (λ c. minus (column (rowAt nums dens left) c) (column (rowAt nums dens right) c)) 0 65 c d-nums₀ d-dens₀ d-nums d-dens
+
+abbrev μ-loop : tie.MeasureT-loop
+μ-loop nums dens left right d-nums₀ d-dens₀ c₀ d-nums d-dens c = 65 - c
+
+loop-holds : tie.Need-loop-holds Inv-loop μ-loop
+loop-holds c =
+    let a = c .args in
+    (omega arith, making-starts (λ c. minus (column (rowAt (now (a .nums)) (now (a .dens)) (a .left)) c) (column (rowAt (now (a .nums)) (now (a .dens)) (a .right)) c)) 0 65 (now (a .d-nums)) (now (a .d-dens)) (c .pre .1 .1 .1 .1))
+
+add-get : tie.Need-add-get Inv-loop μ-loop
+add-get c = search needs
+
+get-requires : tie.Need-get-requires Inv-loop μ-loop
+get-requires c κs = search needs
+
+add-get-2 : tie.Need-add-get-2 Inv-loop μ-loop
+add-get-2 c = search needs
+
+get-requires-2 : tie.Need-get-requires-2 Inv-loop μ-loop
+get-requires-2 c κs = search needs
+
+difference-requires : tie.Need-difference-requires Inv-loop μ-loop
+difference-requires c κs =
+    let start = c .before .before .before .before in (
+      subst Good (sym (c .before .get .ensures)) (start .pre .1 .1 .0 .good _ (omega arith)),
+      subst Good (sym (c .get2 .ensures)) (start .pre .1 .1 .1 .0 .good _ (omega arith)),
+    )
+
+-- what the difference answers is the rule's column
+cell-answers : (c : tie.After-difference Inv-loop μ-loop) →
+    let a = c .before .before .before .before .before .args in
+    let at = c .before .before .before .before .loop .c in
+    Answers (c .difference .result) (minus (column (rowAt (now (a .nums)) (now (a .dens)) (a .left)) at) (column (rowAt (now (a .nums)) (now (a .dens)) (a .right)) at))
+cell-answers c =
+    let test = c .before .before .before in
+    let a = test .before .before .args in
+    subst (Answers (c .difference .result))
+    (column-differs (now (a .nums)) (now (a .dens)) (a .left) (a .right) (test .loop-test .taken) (c .before .before .get .ensures) (c .before .get2 .ensures))
+    (c .difference .ensures)
+
+enum-known-f : tie.Need-enum-known-f Inv-loop μ-loop
+enum-known-f c = search needs
+
+put-requires : tie.Need-put-requires Inv-loop μ-loop
+put-requires c κs = search needs
+
+add-c : tie.Need-add-c Inv-loop μ-loop
+add-c c = search needs
+
+loop-less : tie.Need-loop-less Inv-loop μ-loop
+loop-less c = search needs
+
+loop-again : tie.Need-loop-again Inv-loop μ-loop
+loop-again c =
+    let turn = c .before .before .before .before .before .before .before .before in
+    let test = turn .before .before .before in
+    let at = test .before .loop .c in
+    let pre = test .before .before .pre in (
+      omega (arith, test .loop-test .taken),
+      turn-stores (test .before .loop .inv .1) (cell-answers turn) (c .before .before .before .before .before .before .f .given .1) (sym (zero-add at))
+          (omega (arith, test, pre .1 .0)) (omega (arith, test, pre .1 .0)) (c .before .before .put .ensures .0) (c .before .before .put .ensures .1),
+    )
+
+enum-known-number : tie.Need-enum-known-number Inv-loop μ-loop
+enum-known-number c = search needs
+
+same-length : tie.Need-same-length Inv-loop μ-loop
+same-length c = search needs
+
+same-length-2 : tie.Need-same-length-2 Inv-loop μ-loop
+same-length-2 c = search needs
+
+returns : tie.Need-returns Inv-loop μ-loop
+unfolding COLUMNS TERMS
+returns c =
+    let turn = c .before .before .before in
+    let test = turn .before .before .before in
+    turn-stops (test .before .loop .inv .1) (cell-answers turn) (c .before .number .given .1) (test .loop-test .taken)
+
+same-length-3 : tie.Need-same-length-3 Inv-loop μ-loop
+same-length-3 c = search needs
+
+same-length-4 : tie.Need-same-length-4 Inv-loop μ-loop
+same-length-4 c = search needs
+
+returns-2 : tie.Need-returns-2 Inv-loop μ-loop
+unfolding COLUMNS TERMS
+returns-2 c = turns-end (c .before .loop .inv .1) (c .before .loop .inv .0) (c .loop-test .left)
+
+pub difference-spec : {M : Type 1} → statement M
+difference-spec =
+    tie.close
+    (tie.spec
+    Inv-loop
+    μ-loop
+    loop-holds
+    add-get
+    get-requires
+    add-get-2
+    get-requires-2
+    difference-requires
+    enum-known-f
+    put-requires
+    add-c
+    loop-less
+    loop-again
+    enum-known-number
+    same-length
+    same-length-2
+    returns
+    same-length-3
+    same-length-4
+    returns-2)

@@ -1,0 +1,3 @@
+pub mod Noted
+pub mod Stages
+pub mod Unique

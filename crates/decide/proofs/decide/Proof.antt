@@ -1,0 +1,62 @@
+-- `decide::decide` meets its contract. Assumes nothing.
+use mathlib.Core.Path.{sym, _∙_}
+use Rattle.outcome.specs.Outcome.{PLACES}
+use Rattle.answer.specs.Refusals.{SPACE}
+use Rattle.decide.proofs.Whole.{decided, space-nums, space-dens, outcome-long, unread-left}
+use borrow.Author.Needs.{needs}
+use Rattle.decide.proofs.decide.Statement.{statement}
+use Rattle.decide.proofs.decide.Tie as tie
+
+returns : tie.Need-returns
+unfolding PLACES SPACE
+returns c =
+    decided _ _ _ _ (space-nums _ _ _ (c .if1 .taken))
+
+returns-2 : tie.Need-returns-2
+unfolding PLACES SPACE
+returns-2 c =
+    decided _ _ _ _ (space-dens _ _ _ (search needs) (c .if2 .taken))
+
+read-problem-requires : tie.Need-read-problem-requires
+read-problem-requires c κs = search needs
+
+enum-known-header : tie.Need-enum-known-header
+enum-known-header c = search needs
+
+decide-sound-requires : tie.Need-decide-sound-requires
+decide-sound-requires c κs =
+    (sym (c .before .before .before .before .before .read-problem .ensures) ∙ c .before .before .before .header .given .1, search needs)
+
+enum-known-number : tie.Need-enum-known-number
+enum-known-number c = search needs
+
+same-length : tie.Need-same-length
+same-length c = search needs
+
+same-length-2 : tie.Need-same-length-2
+same-length-2 c = search needs
+
+returns-3 : tie.Need-returns-3
+unfolding PLACES SPACE
+returns-3 c =
+    decided _ _ _ _ (outcome-long _ _ _ (search needs) (search needs) ∙ c .before .before .decide-sound .ensures)
+
+returns-4 : tie.Need-returns-4
+unfolding PLACES SPACE
+returns-4 c =
+    decided _ _ _ _ (unread-left _ _ _ _ _ (search needs) (search needs) (sym (c .before .before .before .read-problem .ensures) ∙ c .before .number .given .1))
+
+pub decide-spec : {M : Type 1} → statement M
+decide-spec =
+    tie.close
+    (tie.spec
+    returns
+    returns-2
+    read-problem-requires
+    enum-known-header
+    decide-sound-requires
+    enum-known-number
+    same-length
+    same-length-2
+    returns-3
+    returns-4)

@@ -1,0 +1,18 @@
+-- What the entry point promises: the outcome that the rules lay down, and what it means.
+-- Main definition: `Decided`. Assumes nothing.
+use mathlib.Core.Path.{_≡_}
+use mathlib.Core.List.{List}
+use Prim.Native.Nat.{ℕ, _≤_}
+use lib.ListN.{length}
+use lib.IntN.{ℤ}
+use Rattle.fraction.specs.Made.{made}
+use Rattle.problem.specs.Problem.{Problem, decoded}
+use Rattle.run.specs.Run.{byNumber}
+use Rattle.outcome.specs.Outcome.{PLACES, Outcome, outcome}
+use Rattle.verdict.specs.Demands.{Truthful}
+
+-- For the byte string and the lists lent: what comes back is what the rules lay down (demand 1), and of each sound problem it
+-- is true (demand 2).
+pub record Decided (bytes : List ℕ) (numerators denominators : List ℤ) (o : Outcome) : Type 0 where
+  pub rules : outcome byNumber bytes numerators denominators ≡ o
+  pub truth : (problem : Problem) → PLACES ≤ length numerators → PLACES ≤ length denominators → decoded bytes ≡ made problem → Truthful problem o

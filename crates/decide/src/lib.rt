@@ -1,0 +1,93 @@
+// The decider: bytes and two lent lists in, the answer out, for every byte string and every length of either list.
+use answer::Answer;
+use reader::Header;
+use reader::Read;
+use steps::Ran;
+ghost use mathlib.Core.Path.{_≡_};
+ghost use Prim.Native.Nat.{_*_, _<_, _≤_};
+ghost use lib.ListN.{length};
+ghost use Rattle.fraction.specs.Made.{made};
+ghost use Rattle.problem.specs.Bits.{field};
+ghost use Rattle.problem.specs.Problem.{Problem, decoded};
+ghost use Rattle.reader.specs.Held.{Held};
+ghost use Rattle.reader.specs.Reads.{readOf};
+ghost use Rattle.reader.specs.declared.Read.the-variants as read;
+ghost use Rattle.run.specs.Run as rule;
+ghost use Rattle.run.specs.Run.{byNumber};
+ghost use Rattle.table.specs.Held.{tableAt, SoundTo};
+ghost use Rattle.table.specs.Loop.{Kept};
+ghost use Rattle.steps.specs.Ran.{ran, WhileGoing};
+ghost use Rattle.outcome.specs.Outcome.{decision, after};
+ghost use Rattle.finish.specs.Leaves.{leaves};
+ghost use Rattle.decide.specs.Decided.{Decided};
+
+// 01, What comes back: "1 SPACE".
+const SPACE: u8 = 1;
+
+// 01, What comes back: "row t, column c stands at 65t + c, 4,160 places".
+const PLACES: usize = 4160;
+
+// 01, The run: built and closed, then each assumption.
+fn run_all(
+    bytes: &[u8],
+    n: usize,
+    m: usize,
+    nums: &mut [i32],
+    dens: &mut [i32],
+    heads: &mut [u16],
+    inputs: &mut [u8],
+) -> Ran
+    requires { ⌜ Held (now bytes) ⌝ }
+    requires { ⌜ (n ≡ field (now bytes) 0 8) × (m ≡ field (now bytes) 8 8) ⌝ }
+    requires { ⌜ (4160 ≤ length (now nums)) × (4160 ≤ length (now dens)) ⌝ }
+    requires { ⌜ (length (now heads) ≡ 64) × (length (now inputs) ≡ 192) ⌝ }
+    ensures { λ r. ⌜ ((problem : Problem) → decoded (now (bytes .entry)) ≡ made problem → rule.run byNumber problem ≡ ran r (tableAt n (now (nums .exit)) (now (dens .exit)))) ⌝ }
+    ensures { λ r. ⌜ Kept 0 (65 * n) (now (nums .entry)) (now (dens .entry)) (now (nums .exit)) (now (dens .exit)) ⌝ }
+    ensures { λ r. ⌜ WhileGoing (SoundTo (65 * n) (now (nums .exit)) (now (dens .exit))) r ⌝ }
+{
+    match begin::begin(bytes, n, nums, dens, heads, inputs) {
+        Ran::Going(solved) => assume::assume_all(bytes, n, m, nums, dens, heads, inputs, solved),
+        Ran::Ended(answer) => Ran::Ended(answer),
+    }
+}
+
+// A problem that was read: the run, and the lists as it leaves them.
+fn decide_sound(bytes: &[u8], header: Header, nums: &mut [i32], dens: &mut [i32]) -> Answer
+    requires { ⌜ readOf (now bytes) ≡ read.Sound header ⌝ }
+    requires { ⌜ (4160 ≤ length (now nums)) × (4160 ≤ length (now dens)) ⌝ }
+    ensures { λ r. ⌜ after (decision byNumber (now (bytes .entry))) (now (nums .entry)) (now (dens .entry)) ≡ leaves r (now (nums .exit)) (now (dens .exit)) ⌝ }
+{
+    let n = header.n;
+    let mut heads = [0u16; 64];
+    let mut inputs = [0u8; 192];
+    match run_all(bytes, n, header.m, nums, dens, &mut heads, &mut inputs) {
+        Ran::Going(solved) => finish::with_rows(nums, dens, n, header.left, header.right, solved),
+        Ran::Ended(answer) => finish::cleared(nums, dens, answer),
+    }
+}
+
+// Decides one problem. The numerators and denominators of the finished table, or zeros, are left in the two lists, which are
+// unchanged where the problem is refused with 1 to 6.
+pub fn decide(bytes: &[u8], nums: &mut [i32], dens: &mut [i32]) -> Answer
+    ensures { λ r. ⌜ Decided (now (bytes .entry)) (now (nums .entry)) (now (dens .entry)) (leaves r (now (nums .exit)) (now (dens .exit))) ⌝ }
+{
+    if nums.len() < PLACES {
+        return Answer::Refused {
+            number: SPACE,
+            place: 0,
+        };
+    }
+    if dens.len() < PLACES {
+        return Answer::Refused {
+            number: SPACE,
+            place: 0,
+        };
+    }
+    match reader::read_problem(bytes) {
+        Read::Sound(header) => decide_sound(bytes, header, nums, dens),
+        Read::Refused { number, place } => Answer::Refused {
+            number: number,
+            place: place,
+        },
+    }
+}

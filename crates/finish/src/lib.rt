@@ -1,0 +1,47 @@
+// The end of a run: both lists are left as the rules say, and the answer is given.
+use answer::Answer;
+use table::COLUMNS;
+ghost use mathlib.Core.Path.{_≡_};
+ghost use Prim.Native.Nat.{_*_, _<_, _≤_};
+ghost use lib.ListN.{length};
+ghost use Rattle.problem.specs.Problem.{Pair};
+ghost use Rattle.run.specs.Run.{judged};
+ghost use Rattle.outcome.specs.Outcome.{finished, cutShort, after};
+ghost use Rattle.table.specs.Held.{tableAt, SoundTo};
+ghost use Rattle.finish.specs.Leaves.{leaves};
+
+// 01, What comes back: "row t, column c stands at 65t + c, 4,160 places".
+const PLACES: usize = 4160;
+
+// A run that went through: the rows stay, rows n to 63 become 0/1, and the goal's rows are compared.
+pub fn with_rows(
+    nums: &mut [i32],
+    dens: &mut [i32],
+    n: usize,
+    left: usize,
+    right: usize,
+    solved: usize,
+) -> Answer
+    requires { ⌜ (n ≤ 64) × (left < n) × (right < n) ⌝ }
+    requires { ⌜ (4160 ≤ length (now nums)) × (4160 ≤ length (now dens)) ⌝ }
+    requires { ⌜ SoundTo (65 * n) (now nums) (now dens) ⌝ }
+    ensures { λ r. ⌜ after (finished (judged (record { left = left; right = right }) (record { table = tableAt n (now (nums .entry)) (now (dens .entry)); solved = solved })) (tableAt n (now (nums .entry)) (now (dens .entry)))) (now (nums .entry)) (now (dens .entry)) ≡ leaves r (now (nums .exit)) (now (dens .exit)) ⌝ }
+{
+    let same = same::same_row(nums, dens, n, left, right);
+    fill::fill(nums, COLUMNS * n, PLACES, 0);
+    fill::fill(dens, COLUMNS * n, PLACES, 1);
+    if same {
+        return Answer::Entailed { solved: solved };
+    }
+    Answer::NotEntailed { solved: solved }
+}
+
+// A run that stopped: every place becomes 0.
+pub fn cleared(nums: &mut [i32], dens: &mut [i32], answer: Answer) -> Answer
+    requires { ⌜ (4160 ≤ length (now nums)) × (4160 ≤ length (now dens)) ⌝ }
+    ensures { λ r. ⌜ after (cutShort answer) (now (nums .entry)) (now (dens .entry)) ≡ leaves r (now (nums .exit)) (now (dens .exit)) ⌝ }
+{
+    fill::fill(nums, 0, PLACES, 0);
+    fill::fill(dens, 0, PLACES, 0);
+    answer
+}

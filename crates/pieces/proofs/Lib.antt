@@ -1,0 +1,5 @@
+pub mod Fractions
+pub mod Places
+pub mod Rows
+pub mod Texts
+pub mod Unique

@@ -1,0 +1,40 @@
+-- How far the run has come in code, as the rules have it.
+-- Main definitions: `ran`, `AtMost`, `WhileGoing`, `Prepared`. Assumes nothing.
+use mathlib.Core.Path.{_≡_}
+use mathlib.Core.List.{List}
+use Prim.Native.Nat.{ℕ, _*_, _≤_}
+use lib.IntN.{ℤ}
+use Rattle.answer.specs.declared.Answer.{Answer}
+use Rattle.fraction.specs.Made.{Made, made, stopped}
+use Rattle.problem.specs.Bits.{field}
+use Rattle.problem.specs.Problem.{Problem, decoded}
+use Rattle.run.specs.Row.{Table}
+use Rattle.run.specs.Merge.{State}
+use Rattle.table.specs.Held.{SoundTo}
+use Rattle.due.specs.Found.{Lookups, InputsBelow}
+use Rattle.reader.specs.Held.{Held}
+use Rattle.steps.specs.declared.Ran.{Ran}
+use Rattle.steps.specs.declared.Ran.the-variants.{Going, Ended}
+
+-- where the lists hold the table now
+unfoldable pub ran : Ran → Table → Made Answer State
+ran (Going solved) table = made (record { table = table; solved = solved })
+ran (Ended answer) table = stopped answer
+
+-- the count of solved unknowns of a run that goes on is at most `most`
+unfoldable pub AtMost : (most : ℕ) → Ran → Type 0
+AtMost most (Going solved) = solved ≤ most
+AtMost most (Ended answer) = Unit {0}
+
+-- what holds of a run that goes on
+unfoldable pub WhileGoing : (holds : Type 0) → Ran → Type 0
+WhileGoing holds (Going solved) = holds
+WhileGoing holds (Ended answer) = Unit {0}
+
+-- The byte string holds a problem of n terms, whose rows are sound and whose lookups are noted as numbers.
+pub record Prepared (bytes : List ℕ) (n : ℕ) (nums dens : List ℤ) (heads inputs : List ℕ) : Type 0 where
+  pub held : Held bytes
+  pub terms : n ≡ field bytes 0 8
+  pub sound : SoundTo (65 * n) nums dens
+  pub lookups : (problem : Problem) → decoded bytes ≡ made problem → Lookups (problem .terms) n heads inputs
+  pub below : InputsBelow n inputs

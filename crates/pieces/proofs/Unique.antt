@@ -7,7 +7,7 @@ use Prim.Native.Nat.{ℕ}
 use lib.IntN.{ℤ}
 use Rattle.run.specs.Row.{COLUMNS}
 use Rattle.listing.specs.Line.{pieces}
-use Rattle.listing.specs.Listing.{allFractions, placesOf}
+use Rattle.listing.specs.Listing.{isFraction, allFractions, placesOf}
 use Rattle.text.specs.Wrote.{Wrote}
 use Rattle.text.proofs.Unique.{wrote-unique}
 use Rattle.pieces.specs.Listable.{rowHeld}
@@ -18,3 +18,6 @@ module _ (t : ℕ) (nums dens : List ℤ) where
 
   pub put-pieces-unique : (place : ℕ) (before after after′ : List ℕ) (next next′ : ℕ) → Wrote (pieces COLUMNS (rowHeld t nums dens)) place before after next → Wrote (pieces COLUMNS (rowHeld t nums dens)) place before after′ next′ → (after ≡ after′) × (next ≡ next′)
   put-pieces-unique = wrote-unique (pieces COLUMNS (rowHeld t nums dens))
+
+pub is-fraction-unique : (num den : ℤ) (r r′ : Bool) → r ≡ isFraction num den → r′ ≡ isFraction num den → r ≡ r′
+is-fraction-unique num den r r′ p q = p ∙ sym q

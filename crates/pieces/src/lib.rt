@@ -26,7 +26,7 @@ const COLUMNS: usize = 65;
 const CONSTANT: usize = 64;
 
 // 01, The listing: "a fraction in lowest terms within the limits". A denominator above 0 is within them.
-fn is_fraction(num: i32, den: i32) -> bool
+pub fn is_fraction(num: i32, den: i32) -> bool
     ensures { λ r. ⌜ r ≡ isFraction num den ⌝ }
 {
     if den < 1 {

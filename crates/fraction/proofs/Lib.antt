@@ -5,3 +5,4 @@ pub mod Cross
 pub mod Equality
 pub mod Field
 pub mod Making
+mod Shown

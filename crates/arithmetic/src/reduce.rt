@@ -27,7 +27,7 @@ pub struct Terms {
 }
 
 // Two sizes divided by their greatest common divisor.
-pub fn lowest(top: u64, bottom: u64) -> Terms
+pub(crate) fn lowest(top: u64, bottom: u64) -> Terms
     requires { ⌜ 0 < bottom ⌝ }
     ensures { λ r. ⌜ (r .top ≡ top / gcd top bottom) × (r .bottom ≡ bottom / gcd top bottom) ⌝ }
 {
@@ -39,7 +39,7 @@ pub fn lowest(top: u64, bottom: u64) -> Terms
 }
 
 // The sign is put back last: all else goes by sizes.
-pub fn made(like: i64, top: u64, bottom: u64) -> Fraction
+pub(crate) fn made(like: i64, top: u64, bottom: u64) -> Fraction
     requires { ⌜ top ≤ 2147483647 ⌝ }
     requires { ⌜ bottom ≤ 2147483647 ⌝ }
     ensures { λ r. ⌜ (r .num ≡ signed like top) × (r .den ≡ pos bottom) ⌝ }
@@ -81,7 +81,7 @@ fn lowered(n: i64, d: u64) -> Made
 }
 
 // The same, with no gcd where none is needed.
-pub fn reduced(n: i64, d: u64) -> Made
+pub(crate) fn reduced(n: i64, d: u64) -> Made
     requires { ⌜ natAbs n < 2 ^ 63 ⌝ }
     requires { ⌜ 0 < d ⌝ }
     ensures { λ r. ⌜ Answers r (tested (frac n d)) ⌝ }

@@ -57,7 +57,7 @@ fn numbers_of(kind: Kind) -> Numbers
 }
 
 // The head of term t at place t, its inputs at 3t, 3t + 1 and 3t + 2.
-pub fn note_call(term: Term, t: usize, heads: &mut [u16], inputs: &mut [u8])
+pub(crate) fn note_call(term: Term, t: usize, heads: &mut [u16], inputs: &mut [u8])
     requires { ⌜ (t < 64) × (length (now heads) ≡ 64) × (length (now inputs) ≡ 192) ⌝ }
     requires { ⌜ Below t (term .kind) ⌝ }
     ensures { λ r. ⌜ now (heads .exit) ≡ set (now (heads .entry)) t (headOf (term .kind)) ⌝ }

@@ -68,7 +68,7 @@ fn same_inputs(nums: &[i32], dens: &[i32], n: usize, inputs: &[u8], i: usize, j:
 }
 
 // 01, Close: lookups with the same kind and symbol, inputs with equal rows place by place, and unequal rows of their own.
-pub fn is_due(
+fn is_due(
     nums: &[i32],
     dens: &[i32],
     n: usize,

@@ -39,15 +39,15 @@ pub fn opposite(a: i32) -> i32
 }
 
 // The same at 64 bits.
-pub fn opposite_wide(a: i64) -> i64
-    requires { ⌜ natAbs a < 2 ^ 63 ⌝ }
-    ensures { λ r. ⌜ r ≡ negℤ a ⌝ }
+fn opposite_wide(long: i64) -> i64
+    requires { ⌜ natAbs long < 2 ^ 63 ⌝ }
+    ensures { λ r. ⌜ r ≡ negℤ long ⌝ }
 {
-    -a
+    -long
 }
 
 // Whether a sign is to be put back.
-pub fn negative(a: i64) -> bool
+fn negative(a: i64) -> bool
     ensures { λ r. ⌜ r ≡ not (nonNeg a) ⌝ }
 {
     a < 0

@@ -17,7 +17,7 @@ pub struct Fields {
 }
 
 // The record from bit `at` on.
-pub fn read_fields(bytes: &[u8], at: usize) -> Fields
+pub(crate) fn read_fields(bytes: &[u8], at: usize) -> Fields
     requires { ⌜ (at ≤ 4096) × (at + 64 ≤ 8 * length (now bytes)) ⌝ }
     ensures { λ r. ⌜ FieldsRead (now (bytes .entry)) at r ⌝ }
 {

@@ -8,10 +8,10 @@ use Rattle.integer.proofs.signed.opposite_wide.Statement.{statement}
 use Rattle.integer.proofs.signed.opposite_wide.Tie as tie
 
 sub-result : tie.Need-sub-result
-sub-result c = rw (toZ-ofZ (c .fits .a)) (fits-opposite w64 (c .args .a) (c .pre))
+sub-result c = rw (toZ-ofZ (c .fits .long)) (fits-opposite w64 (c .args .long) (c .pre))
 
 returns : tie.Need-returns
-returns c = rw (toZ-ofZ (c .fits .a)) (toZ-ofZ (fits-opposite w64 (c .args .a) (c .pre)) ∙ opposite-is (c .args .a))
+returns c = rw (toZ-ofZ (c .fits .long)) (toZ-ofZ (fits-opposite w64 (c .args .long) (c .pre)) ∙ opposite-is (c .args .long))
 
 pub opposite-wide-spec : {M : Type 1} → statement M
 opposite-wide-spec = tie.close (tie.spec sub-result returns)

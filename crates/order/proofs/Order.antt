@@ -1,5 +1,5 @@
 -- Demand 3 of the rules: the order of the assumptions, their repeats and their sides do not matter.
--- Main results: `rules-ignore-order`, `same-bytes-same-outcome`. Assume nothing.
+-- Main results: `rules-ignore-order`, `accepted`, `same-bytes-same-outcome`. Assume nothing.
 use mathlib.Core.Path.{_≡_, refl}
 use mathlib.Core.Bool.{Bool, true, false, cond, _&&_}
 use mathlib.Core.List.{List}
@@ -32,13 +32,13 @@ rules-ignore-order = record {
 }
 
 -- What is known where nothing is refused: lists that are long enough, and a problem.
-record Accepted (bytes : List ℕ) (numerators denominators : List ℤ) : Type 0 where
-  first : PLACES ≤ length numerators
-  second : PLACES ≤ length denominators
-  problem : Problem
-  read : decoded bytes ≡ made problem
+pub record Accepted (bytes : List ℕ) (numerators denominators : List ℤ) : Type 0 where
+  pub first : PLACES ≤ length numerators
+  pub second : PLACES ≤ length denominators
+  pub problem : Problem
+  pub read : decoded bytes ≡ made problem
 
-accepted : (rank : ℕ → ℕ) (bytes : List ℕ) (numerators denominators : List ℤ) → NotRefused (outcome rank bytes numerators denominators) → Accepted bytes numerators denominators
+pub accepted : (rank : ℕ → ℕ) (bytes : List ℕ) (numerators denominators : List ℤ) → NotRefused (outcome rank bytes numerators denominators) → Accepted bytes numerators denominators
 unfolding NotRefused wordOf outcome decision afterReading after answered said
 accepted rank bytes numerators denominators passed = by (leb PLACES (length numerators)) (leb PLACES (length denominators)) (decoded bytes) refl refl refl passed
   where

@@ -1,5 +1,5 @@
 -- The laws at a small problem: two variables x and y; x = y in the one string, y = x twice in the other.
--- Main results: `turned`, `shown`. Assume nothing.
+-- Main results: `turned`, `not-refused`, `shown`. Assume nothing.
 use mathlib.Core.Path.{_≡_, refl, sym, ap, _∙_}
 use mathlib.Core.Logic.{_≢_, inr}
 use mathlib.Core.List.{List, [], _∷_, _++_}
@@ -76,7 +76,8 @@ unfolding
     said
 both-entailed = (refl, refl)
 
-not-refused : (bytes : List ℕ) (numerators denominators : List ℤ) → PLACES ≤ length numerators → PLACES ≤ length denominators → said (answered (decision byNumber bytes)) .word ≡ entailed → NotRefused (outcome byNumber bytes numerators denominators)
+-- What is entailed is not refused,
+pub not-refused : (bytes : List ℕ) (numerators denominators : List ℤ) → PLACES ≤ length numerators → PLACES ≤ length denominators → said (answered (decision byNumber bytes)) .word ≡ entailed → NotRefused (outcome byNumber bytes numerators denominators)
 unfolding NotRefused wordOf
 not-refused bytes numerators denominators first second says number refuses =
     let same = ap (λ a. said a .word) (outcome-answer byNumber bytes numerators denominators first second) in

@@ -1,4 +1,5 @@
--- Demands 1 and 2 on a deciding program, as statements; they are not yet proved of one.
+-- Demands 1 and 2 on a deciding program, as statements. Proved: both of the entry point, whose contract is `Decided` (crate `decide`);
+-- demand 2 of the rules, `rules-tell-the-truth` (crate `truth`).
 -- Main definitions: `Program`, `NothingPresumed`, `EqualIsTrue`. Assumes nothing.
 use mathlib.Core.Path.{_≡_}
 use mathlib.Core.Logic.{_↔_, _⊎_}

@@ -1,4 +1,5 @@
--- Demand 3 on a deciding program, as a statement; it is not yet proved of one.
+-- Demand 3 on a deciding program, as a statement. Proved: of the rules, `rules-ignore-order` (crate `order`); of two calls of the
+-- entry point, from its contract, `calls-agree` (crate `calls`).
 -- Main definitions: `SameUpToOrder`, `SameOutcome`, `OrderDoesNotMatter`. Assumes nothing.
 use mathlib.Core.Path.{_≡_}
 use mathlib.Core.Logic.{_⊎_}

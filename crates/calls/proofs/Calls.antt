@@ -1,7 +1,7 @@
 -- Demand 3 of two calls of `decide`, from its contract alone.
 -- Main results: `calls-agree`, `exits-agree`. Assume nothing.
 use mathlib.Core.Path.{_≡_, refl, sym, ap, _∙_, subst, subst₂}
-use mathlib.Core.List.{List, []}
+use mathlib.Core.List.{List}
 use Prim.Native.Nat.{ℕ, _≤_, _<_}
 use native.Mathlib.Omega.{arith}
 use lib.ListN.{getD, take}
@@ -10,17 +10,15 @@ use lib.IntN.{ℤ, pos}
 use Rattle.answer.specs.declared.Answer.{Answer}
 use Rattle.answer.specs.declared.Answer.the-variants.{Entailed, NotEntailed, Contradictory, Refused}
 use Rattle.answer.specs.Said.{contradictory, said}
-use Rattle.fraction.specs.Made.{Made, made, stopped}
+use Rattle.fraction.specs.Made.{made}
 use Rattle.problem.specs.Problem.{Problem, decoded}
-use Rattle.valuation.proofs.Decoded.{decoded-sound}
 use Rattle.run.specs.Merge.{State}
 use Rattle.run.specs.Run.{byNumber, run}
 use Rattle.invariant.proofs.Granted.{by-number-one-to-one}
-use Rattle.outcome.specs.Outcome.{PLACES, afterReading, afterRun, answered, decision}
-use Rattle.outcome.proofs.Decided.{outcome-answer}
+use Rattle.outcome.specs.Outcome.{PLACES}
 use Rattle.verdict.specs.Demands.{wordOf, Finished, Truthful}
 use Rattle.verdict.specs.Order.{SameUpToOrder, NotRefused, SameOutcome, unknowns}
-use Rattle.truth.proofs.Answers.{stopped-unfinished}
+use Rattle.truth.proofs.Truthful.{finished-run}
 use Rattle.order.proofs.Bytes.{same-bytes-same}
 use Rattle.order.proofs.Order.{Accepted, accepted}
 use Rattle.order.proofs.Outcomes.{outcome-same, outcome-bounded}
@@ -37,23 +35,10 @@ module _ (call : Call) (passed : NotRefused (call .back)) where
     true-back : Truthful problem (call .back)
     true-back = call .promised .truth problem (admitted .first) (admitted .second) read
 
-    -- What comes back with a finished table comes of a run that finished.
     back-merges : Finished (call .back) → (state : State) × (run byNumber problem ≡ made state) × (said (call .back .answer) .count ≡ state .solved)
-    unfolding Finished wordOf decision afterReading afterRun answered
-    back-merges finished = by (run byNumber problem) refl
-      where
-        says : call .back .answer ≡ answered (afterRun problem (run byNumber problem))
-        says =
-            ap (λ o. o .answer) (sym (call .promised .rules))
-            ∙ outcome-answer byNumber (call .bytes) (call .numerators) (call .denominators) (admitted .first) (admitted .second)
-            ∙ ap (λ r. answered (afterReading byNumber r)) read
-
-        by : (ended : Made Answer State) → run byNumber problem ≡ ended → (state : State) × (run byNumber problem ≡ made state) × (said (call .back .answer) .count ≡ state .solved)
-        by (made state) h = (state, h, true-back .count-exactly state h)
-        by (stopped answer) h =
-            absurd
-            (stopped-unfinished byNumber problem by-number-one-to-one (decoded-sound (call .bytes) problem read) answer h
-            (subst (λ a. Finished (record { answer = a; numerators = []; denominators = [] })) (says ∙ ap (λ e. answered (afterRun problem e)) h) finished))
+    back-merges finished =
+        let (state, ran) = finished-run (call .bytes) (call .numerators) (call .denominators) problem (admitted .first) (admitted .second) read (subst Finished (sym (call .promised .rules)) finished) in
+        (state, ran, true-back .count-exactly state ran)
 
     holds : Holds problem (call .back)
     holds = record {

@@ -25,7 +25,7 @@ use Rattle.invariant.specs.Invariant.{OneToOne, Completed}
 use Rattle.invariant.proofs.Granted.{sound-shaped, sound-sides}
 use Rattle.invariant.proofs.Run.{run-count}
 use Rattle.outcome.specs.Outcome.{PLACES, unread, cutShort, afterRun, afterReading, decision, answered, after, outcome}
-use Rattle.outcome.proofs.Decided.{outcome-long-enough}
+use Rattle.outcome.proofs.Decided.{outcome-run}
 use Rattle.verdict.specs.Demands.{wordOf}
 use Rattle.verdict.specs.Order.{SameUpToOrder, NotRefused, SameOutcome, unknowns}
 use Rattle.truth.proofs.Answers.{judged-count, stopped-either}
@@ -94,17 +94,11 @@ module _ (rank : ℕ → ℕ) (one-to-one : OneToOne rank) where
         let (place′, says′) = contradicts sound′ numerators′ denominators′ answer′ h′ accepted′ in
         rw (says, says′) (both-contradict place place′)
 
--- Lists that are long enough and a problem that is decoded come back as its run leaves them.
-outcome-run : (rank : ℕ → ℕ) (bytes : List ℕ) (numerators denominators : List ℤ) (problem : Problem) → PLACES ≤ length numerators → PLACES ≤ length denominators → decoded bytes ≡ made problem → outcome rank bytes numerators denominators ≡ after (afterRun problem (run rank problem)) numerators denominators
-unfolding decision afterReading
-outcome-run rank bytes numerators denominators problem first second read =
-    outcome-long-enough rank bytes numerators denominators first second ∙ ap (λ r. after (afterReading rank r) numerators denominators) read
-
 -- Demand 3 for any fixed ranking: the same word, the same table, the same count.
 pub outcome-same : (rank : ℕ → ℕ) → OneToOne rank → (bytes bytes′ : List ℕ) (numerators denominators numerators′ denominators′ : List ℤ) (p q : Problem) → PLACES ≤ length numerators → PLACES ≤ length denominators → PLACES ≤ length numerators′ → PLACES ≤ length denominators′ → decoded bytes ≡ made p → decoded bytes′ ≡ made q → SameUpToOrder p q → NotRefused (outcome rank bytes numerators denominators) → NotRefused (outcome rank bytes′ numerators′ denominators′) → SameOutcome (outcome rank bytes numerators denominators) (outcome rank bytes′ numerators′ denominators′)
 outcome-same rank one-to-one bytes bytes′ numerators denominators numerators′ denominators′ p q first second first′ second′ read read′ same accepted accepted′ =
-    let ends = outcome-run rank bytes numerators denominators p first second read in
-    let ends′ = outcome-run rank bytes′ numerators′ denominators′ q first′ second′ read′ in
+    let ends = outcome-run rank bytes numerators denominators first second p read in
+    let ends′ = outcome-run rank bytes′ numerators′ denominators′ first′ second′ q read′ in
     subst₂ SameOutcome (sym ends) (sym ends′)
     (runs-same rank one-to-one (decoded-sound bytes p read) (decoded-sound bytes′ q read′) same numerators denominators numerators′ denominators′ first second first′ second′
     (run rank p) (run rank q) refl refl (subst NotRefused ends accepted) (subst NotRefused ends′ accepted′))

@@ -1,12 +1,15 @@
 -- What comes back where both lent lists are long enough: the decision's answer, and lists as it leaves them.
--- Main results: `after-answer`, `outcome-long-enough`, `outcome-answer`. Assume nothing.
+-- Main results: `after-answer`, `outcome-long-enough`, `outcome-answer`, `outcome-run`. Assume nothing.
 use mathlib.Core.Path.{_≡_, refl, ap, _∙_}
 use mathlib.Core.List.{List}
 use Prim.Native.Nat.{ℕ, _≤_}
 use borrow.Author.Tests.{le-leb}
 use lib.ListN.{length}
 use lib.IntN.{ℤ}
-use Rattle.outcome.specs.Outcome.{Decision, unread, cutShort, finished, decision, answered, PLACES, after, outcome}
+use Rattle.fraction.specs.Made.{made}
+use Rattle.problem.specs.Problem.{Problem, decoded}
+use Rattle.run.specs.Run.{run}
+use Rattle.outcome.specs.Outcome.{Decision, unread, cutShort, finished, afterRun, afterReading, decision, answered, PLACES, after, outcome}
 
 -- The answer is the decision's.
 pub after-answer : (d : Decision) (numerators denominators : List ℤ) → after d numerators denominators .answer ≡ answered d
@@ -23,3 +26,8 @@ module _ (rank : ℕ → ℕ) (bytes : List ℕ) (numerators denominators : List
 
   pub outcome-answer : outcome rank bytes numerators denominators .answer ≡ answered (decision rank bytes)
   outcome-answer = ap (λ o. o .answer) outcome-long-enough ∙ after-answer (decision rank bytes) numerators denominators
+
+  -- A problem that is decoded comes back as its run leaves it.
+  pub outcome-run : (problem : Problem) → decoded bytes ≡ made problem → outcome rank bytes numerators denominators ≡ after (afterRun problem (run rank problem)) numerators denominators
+  unfolding decision afterReading
+  outcome-run problem read = outcome-long-enough ∙ ap (λ r. after (afterReading rank r) numerators denominators) read

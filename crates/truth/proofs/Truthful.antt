@@ -1,5 +1,5 @@
 -- Demand 2 of the rules: what comes back is true.
--- Main results: `outcome-truthful`, `rules-tell-the-truth`, `said-in-range`. Assume nothing.
+-- Main results: `outcome-truthful`, `finished-run`, `rules-tell-the-truth`, `said-in-range`. Assume nothing.
 use mathlib.Core.Path.{_≡_, refl, sym, ap, _∙_, subst}
 use mathlib.Core.Logic.{_↔_, Iff·trans}
 use mathlib.Core.List.{List}
@@ -22,10 +22,9 @@ use Rattle.run.specs.Row.{TERMS, COLUMNS, Table, cell}
 use Rattle.run.specs.Merge.{State}
 use Rattle.run.specs.Run.{byNumber, run, judged}
 use Rattle.invariant.specs.Rows.{EqualRows as EqualCells}
-use Rattle.invariant.specs.Invariant.{OneToOne}
-use Rattle.outcome.specs.Outcome.{PLACES, Outcome, laidOut, finished, afterRun, afterReading, decision, after, outcome}
+use Rattle.outcome.specs.Outcome.{PLACES, Outcome, laidOut, finished, afterRun, after, outcome}
 use Rattle.outcome.proofs.Cells.{laid-out-at}
-use Rattle.outcome.proofs.Decided.{after-answer, outcome-long-enough}
+use Rattle.outcome.proofs.Decided.{after-answer, outcome-run}
 use Rattle.verdict.specs.Demands.{wordOf, InRange, OutOfRange, EqualRows, Finished, Truthful, EqualIsTrue}
 use Rattle.truth.specs.Meant.{Meant}
 use Rattle.truth.proofs.Words.{word-exactly}
@@ -83,6 +82,12 @@ module _ (problem : Problem) (sound : Sound problem) (numerators denominators : 
   true-count (made state) h other again = let same : state ≡ other = cc in judged-count (problem .goal) state ∙ ap (λ s. s .solved) same
   true-count (stopped answer) h other again = absurd (stopped-not-made (sym h ∙ again))
 
+  -- A finished table is that of a run that went through.
+  went-through : (answer : Made Answer State) → run byNumber problem ≡ answer → Finished (left answer) → (state : State) × (run byNumber problem ≡ made state)
+  unfolding left after afterRun Finished wordOf
+  went-through (made state) h finishes = (state, h)
+  went-through (stopped answer) h finishes = absurd (stopped-unfinished byNumber problem by-number-one-to-one sound answer h finishes)
+
   run-truthful : (answer : Made Answer State) → run byNumber problem ≡ answer → Truthful problem (left answer)
   unfolding Meant
   run-truthful answer h = record {
@@ -96,10 +101,17 @@ module _ (problem : Problem) (sound : Sound problem) (numerators denominators : 
 
 -- What comes back of a problem that passes the first six tests is true.
 pub outcome-truthful : (bytes : List ℕ) (numerators denominators : List ℤ) (problem : Problem) → PLACES ≤ length numerators → PLACES ≤ length denominators → decoded bytes ≡ made problem → Truthful problem (outcome byNumber bytes numerators denominators)
-unfolding decision afterReading left
+unfolding left
 outcome-truthful bytes numerators denominators problem first second sound =
-    subst (Truthful problem) (sym (outcome-long-enough byNumber bytes numerators denominators first second ∙ ap (λ read. after (afterReading byNumber read) numerators denominators) sound))
+    subst (Truthful problem) (sym (outcome-run byNumber bytes numerators denominators first second problem sound))
     (run-truthful problem (decoded-sound bytes problem sound) numerators denominators first second (run byNumber problem) refl)
+
+-- A finished table of such a problem comes of a run that went through.
+pub finished-run : (bytes : List ℕ) (numerators denominators : List ℤ) (problem : Problem) → PLACES ≤ length numerators → PLACES ≤ length denominators → decoded bytes ≡ made problem → Finished (outcome byNumber bytes numerators denominators) → (state : State) × (run byNumber problem ≡ made state)
+unfolding left
+finished-run bytes numerators denominators problem first second sound finishes =
+    went-through problem (decoded-sound bytes problem sound) numerators denominators first second (run byNumber problem) refl
+    (subst Finished (outcome-run byNumber bytes numerators denominators first second problem sound) finishes)
 
 -- Demand 2, for the rules.
 pub rules-tell-the-truth : EqualIsTrue (λ bytes numerators denominators. outcome byNumber bytes numerators denominators)

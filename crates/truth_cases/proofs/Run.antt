@@ -1,5 +1,5 @@
 -- The laws of a finished run at case A.
--- Main results: `a-complete`, `a-model`, `a-balanced`. Assume nothing.
+-- Main results: `a-finished`, `a-complete`, `a-model`, `a-balanced`. Assume nothing.
 use mathlib.Core.Path.{_≡_, refl}
 use mathlib.Core.Logic.{_↔_}
 use mathlib.Core.Bool.{Bool, true, _&&_, and-eq-true-iff, cond}
@@ -48,17 +48,17 @@ zeros-below (suc k) f h c below =
     last-or-before k (eqℚ-yes _ _ here) (zeros-below k f before) c below
 
 -- the state that a run ends with
-ending : Made Answer State → State
+unfoldable pub ending : Made Answer State → State
 ending (made state) = state
 ending (stopped answer) = record { table = []; solved = 0 }
 
-pub stateA : State
+unfoldable pub stateA : State
 stateA = ending (run byNumber problemA)
 
 a-sound : Sound problemA
 a-sound = decoded-sound (bytesOf 0) problemA (caseA-not-entailed .holds)
 
-a-finished : run byNumber problemA ≡ made stateA
+pub a-finished : run byNumber problemA ≡ made stateA
 unfolding computedRun problemA ending stateA
 a-finished = refl
 

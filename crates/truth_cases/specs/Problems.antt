@@ -1,5 +1,5 @@
--- Cases A, B, D and H of document 01 as problems, and the bytes that hold them.
--- Main definitions: `bytesOf`, `problemA`, `problemB`, `problemD`, `problemH`. Assumes nothing.
+-- Cases A, B, C, D, H, I and L of document 01 as problems, and the bytes that hold them.
+-- Main definitions: `bytesOf`, `problemA`, `problemB`, `problemC`, `problemD`, `problemH`, `problemI`, `problemL`. Assumes nothing.
 use mathlib.Core.List.{List, [], _∷_, map}
 use Prim.Native.Nat.{ℕ}
 use lib.ListN.{getD}
@@ -31,13 +31,19 @@ problemA =
     (pair 1 2)
     (pair 2 3 ∷ [])
 
--- x, f(x) to f⁵(x); f³(x) = f(x), goal f⁵(x) = f(x)
+-- x, f(x) to f⁵(x)
+unfoldable pub fiveTimes : List Kind
+fiveTimes = Variable 0 ∷ Lookup1 7 0 ∷ Lookup1 7 1 ∷ Lookup1 7 2 ∷ Lookup1 7 3 ∷ Lookup1 7 4 ∷ []
+
+-- f³(x) = f(x), goal f⁵(x) = f(x)
 unfoldable pub problemB : Problem
-problemB =
-    problem
-    (Variable 0 ∷ Lookup1 7 0 ∷ Lookup1 7 1 ∷ Lookup1 7 2 ∷ Lookup1 7 3 ∷ Lookup1 7 4 ∷ [])
-    (pair 5 1)
-    (pair 3 1 ∷ [])
+unfolding fiveTimes
+problemB = problem fiveTimes (pair 5 1) (pair 3 1 ∷ [])
+
+-- f⁵(x) = x, f³(x) = x, goal f(x) = x
+unfoldable pub problemC : Problem
+unfolding fiveTimes
+problemC = problem fiveTimes (pair 1 0) (pair 5 0 ∷ pair 3 0 ∷ [])
 
 -- x, y, 1, x-1, f(x-1), f(x-1)-1, x+1, f(y), f(y)+1, y-1, y+1; f(x-1)-1 = x+1, f(y)+1 = y-1, y+1 = x
 unfoldable pub problemD : Problem
@@ -74,3 +80,11 @@ problemH =
     ∷ [])
     (pair 8 2)
     (pair 0 1 ∷ pair 4 2 ∷ [])
+
+-- x, and f(x) twice; goal between the two
+unfoldable pub problemI : Problem
+problemI = problem (Variable 0 ∷ Lookup1 7 0 ∷ Lookup1 7 0 ∷ []) (pair 1 2) []
+
+-- two variables, both with symbol 9; goal between them
+unfoldable pub problemL : Problem
+problemL = problem (Variable 9 ∷ Variable 9 ∷ []) (pair 0 1) []

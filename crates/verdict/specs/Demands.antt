@@ -65,7 +65,7 @@ pub record Truthful (problem : Problem) (o : Outcome) : Type 0 where
 
 -- Demand 2, "for each table that passes the first six tests": long enough lists, and a sound record.
 --
--- What it rules out, each by one case of document 01:
+-- What it rules out, each by one case of document 01 (laws in crate `stand_ins`):
 -- * a program that refuses all: case L is in range and not entailed, so `not-entailed-exactly` asks for another word;
 -- * one that says not-entailed to all: in case I every reading gives both records of f(x) one number, so `entailed-exactly`;
 -- * one that leaves the unfolded rows: in case A the assumption forces terms 2 and 3 equal, whose rows before the fold differ,

@@ -1,16 +1,20 @@
 -- Each contract leaves one answer.
 -- Main results: a law NAME-unique for each public function NAME. Assume nothing.
 use mathlib.Core.Path.{_≡_, sym, ap, _∙_}
-use Prim.Native.Nat.{ℕ}
+use Prim.Native.Nat.{ℕ, _/_}
 use native.Mathlib.Omega.{arith}
-use Rattle.fraction.specs.Exact.{ℚ, negℚ, value}
+use lib.IntN.{ℤ, pos}
+use Rattle.whole.specs.Gcd.{gcd}
+use Rattle.whole.specs.Signed.{signed}
+use Rattle.fraction.specs.Exact.{ℚ, frac, negℚ, value}
 use Rattle.fraction.specs.Made as rule
-use Rattle.fraction.specs.Limits.{plus, minus, times, over}
+use Rattle.fraction.specs.Limits.{tested, plus, minus, times, over}
 use Rattle.fraction.specs.Made.{made, stopped}
 use Rattle.fraction.specs.declared.Fraction.{Fraction}
 use Rattle.arithmetic.specs.Values.{Stands, says, Sound, Answers}
 use Rattle.arithmetic.specs.declared.Made.the-variants.{Fits, Refused}
 use Rattle.arithmetic.specs.declared.Made.{Made}
+use Rattle.arithmetic.specs.declared.reduce.Terms.{Terms}
 use Rattle.arithmetic.proofs.Lowest.{value-one-to-one}
 
 made-one-to-one : {p q : ℚ} → _≡_ {A = rule.Made ℕ ℚ} (made p) (made q) → p ≡ q
@@ -52,3 +56,13 @@ negated-unique a f g p q = stands-unique p q
 
 pub lowered-unique : (a : Fraction) (f g : Fraction) → Stands f (value a) → Stands g (value a) → f ≡ g
 lowered-unique a f g p q = stands-unique p q
+
+-- The functions that the operations share inside the crate.
+pub lowest-unique : (top bottom : ℕ) (r s : Terms) → (r .top ≡ top / gcd top bottom) × (r .bottom ≡ bottom / gcd top bottom) → (s .top ≡ top / gcd top bottom) × (s .bottom ≡ bottom / gcd top bottom) → r ≡ s
+lowest-unique top bottom r s p q = λ i. record { top = (p .0 ∙ sym (q .0)) i; bottom = (p .1 ∙ sym (q .1)) i }
+
+pub made-unique : (like : ℤ) (top bottom : ℕ) (f g : Fraction) → (f .num ≡ signed like top) × (f .den ≡ pos bottom) → (g .num ≡ signed like top) × (g .den ≡ pos bottom) → f ≡ g
+made-unique like top bottom f g p q = λ i. record { num = (p .0 ∙ sym (q .0)) i; den = (p .1 ∙ sym (q .1)) i }
+
+pub reduced-unique : (n : ℤ) (d : ℕ) (r s : Made) → Answers r (tested (frac n d)) → Answers s (tested (frac n d)) → r ≡ s
+reduced-unique n d r s p q = answers-unique p q

@@ -13,6 +13,7 @@ ghost use Rattle.run.specs.Run as rule;
 ghost use Rattle.run.specs.Run.{byNumber};
 ghost use Rattle.table.specs.Held.{tableAt};
 ghost use Rattle.table.specs.Loop.{Kept};
+ghost use Rattle.table.specs.Calls.{NotesKept};
 ghost use Rattle.steps.specs.Ran.{ran, AtMost, WhileGoing, Prepared};
 
 // 01, The run, 1 and 2: the rows are built and closed; a stop there has place 0.
@@ -32,6 +33,7 @@ pub fn begin(
     ensures { λ r. ⌜ Kept 0 (65 * n) (now (nums .entry)) (now (dens .entry)) (now (nums .exit)) (now (dens .exit)) ⌝ }
     ensures { λ r. ⌜ WhileGoing (Prepared (now (bytes .entry)) n (now (nums .exit)) (now (dens .exit)) (now (heads .exit)) (now (inputs .exit))) r ⌝ }
     ensures { λ r. ⌜ AtMost 65 r ⌝ }
+    ensures { λ r. ⌜ NotesKept n (now (heads .entry)) (now (inputs .entry)) (now (heads .exit)) (now (inputs .exit)) ⌝ }
 {
     match build::build(bytes, n, nums, dens, heads, inputs) {
         Step::Done => steps::placed(0, close::close(nums, dens, n, heads, inputs, 0), 65),

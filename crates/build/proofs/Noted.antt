@@ -1,5 +1,5 @@
 -- The lookups as numbers: one more term is noted.
--- Main results: `below-more`, `no-call`, `calls-noted`. Assume nothing.
+-- Main results: `below-more`, `no-call`, `calls-noted`, `notes-more`. Assume nothing.
 use mathlib.Core.Path.{_≡_, refl, sym, ap, _∙_}
 use mathlib.Core.List.{List, [], _∷_}
 use mathlib.Core.Option.{none}
@@ -16,7 +16,7 @@ use Rattle.problem.specs.declared.Kind.the-variants.{Variable, Constant, Gain, 
 use Rattle.problem.specs.declared.Term.{Term}
 use Rattle.problem.specs.Lookup.{callOf, kindAt}
 use Rattle.problem.proofs.Kind.{the-type}
-use Rattle.table.specs.Calls.{headOf, inputOf, Calls}
+use Rattle.table.specs.Calls.{headOf, inputOf, Calls, NotesKept}
 use Rattle.build_rows.specs.Buildable.{Below}
 
 -- Inputs below a number are below any larger one.
@@ -50,6 +50,10 @@ module _ (l : List ℕ) (k x y z : ℕ) where
 
   stored-before : (j : ℕ) → j < k → getD stored j 0 ≡ getD l j 0
   stored-before j before =
+      getD-set-other (set (set l k x) (k + 1) y) (k + 2) j z 0 (λ e. omega arith) ∙ getD-set-other (set l k x) (k + 1) j y 0 (λ e. omega arith) ∙ getD-set-other l k j x 0 (λ e. omega arith)
+
+  stored-after : (j : ℕ) → k + 3 ≤ j → getD stored j 0 ≡ getD l j 0
+  stored-after j after =
       getD-set-other (set (set l k x) (k + 1) y) (k + 2) j z 0 (λ e. omega arith) ∙ getD-set-other (set l k x) (k + 1) j y 0 (λ e. omega arith) ∙ getD-set-other l k j x 0 (λ e. omega arith)
 
   module _ (there : k + 2 < length l) where
@@ -86,3 +90,13 @@ calls-noted terms t {kind} {heads} {inputs} {heads′} {inputs′} short wide e 
     input-at s i below place (yes same) = rw same (own i place ∙ ap (λ k. inputOf k i) (sym e))
     input-at s i below place (no other) =
         stored-before inputs (3 * t) (inputOf kind 0) (inputOf kind 1) (inputOf kind 2) (3 * s + i) (omega arith) ∙ calls .input s i (omega arith) place
+
+-- No place behind the first n terms has changed when the call of one of them is noted.
+pub notes-more : (kind : Kind) {t n : ℕ} {heads₀ inputs₀ heads inputs heads′ inputs′ : List ℕ} → t < n → heads′ ≡ set heads t (headOf kind) → inputs′ ≡ stored inputs (3 * t) (inputOf kind 0) (inputOf kind 1) (inputOf kind 2) → NotesKept t heads₀ inputs₀ heads inputs → NotesKept n heads₀ inputs₀ heads′ inputs′
+notes-more kind {t} {heads = heads} {inputs} below head-is inputs-are kept =
+    record {
+      heads-length = ap length head-is ∙ length-set heads t (headOf kind) ∙ kept .heads-length;
+      inputs-length = ap length inputs-are ∙ simp length-set (kept .inputs-length);
+      heads-beyond = λ k far. ap (λ l. getD l k 0) head-is ∙ getD-set-other heads t k (headOf kind) 0 (λ e. omega arith) ∙ kept .heads-beyond k (omega arith);
+      inputs-beyond = λ k far. ap (λ l. getD l k 0) inputs-are ∙ stored-after inputs (3 * t) (inputOf kind 0) (inputOf kind 1) (inputOf kind 2) k (omega arith) ∙ kept .inputs-beyond k (omega arith);
+    }

@@ -19,7 +19,7 @@ use Rattle.table.specs.declared.Step.{Step}
 use Rattle.table.specs.declared.Step.the-variants.{Done, Refused}
 use Rattle.table.specs.Held.{listed, rowAt, tableAt, SoundTo, finished}
 use Rattle.table.specs.Loop.{Kept}
-use Rattle.table.specs.Calls.{Calls}
+use Rattle.table.specs.Calls.{Calls, NotesKept}
 use Rattle.table.proofs.Columns.{table-length, kept-itself, kept-within, kept-then}
 use Rattle.table.proofs.Turns.{finished-done, finished-refused}
 use Rattle.build_rows.specs.Built.{RowBuilt}
@@ -42,19 +42,21 @@ unfolding built kindAt
 built-next terms t table below sized = rw (drop-cons terms t (record { kind = Variable 0 }), sized, add-one)
 
 -- In the loop over the terms: the rows below t are built, they are sound, and their lookups are noted.
-pub record Rising (terms : List Term) (t : ℕ) (nums₀ dens₀ nums dens : List ℤ) (heads inputs : List ℕ) : Type 0 where
+pub record Rising (terms : List Term) (t : ℕ) (nums₀ dens₀ nums dens : List ℤ) (heads₀ inputs₀ heads inputs : List ℕ) : Type 0 where
   pub remains : built terms [] ≡ built (drop t terms) (tableAt t nums dens)
   pub kept : Kept 0 (65 * t) nums₀ dens₀ nums dens
+  pub notes : NotesKept t heads₀ inputs₀ heads inputs
   pub sound : SoundTo (65 * t) nums dens
   pub calls : Calls terms t heads inputs
 
-module _ (terms : List Term) (nums₀ dens₀ : List ℤ) where
-  pub rising-starts : (heads inputs : List ℕ) → Rising terms 0 nums₀ dens₀ nums₀ dens₀ heads inputs
+module _ (terms : List Term) (nums₀ dens₀ : List ℤ) (heads₀ inputs₀ : List ℕ) where
+  pub rising-starts : Rising terms 0 nums₀ dens₀ nums₀ dens₀ heads₀ inputs₀ heads₀ inputs₀
   unfolding tableAt listed
-  rising-starts heads inputs =
+  rising-starts =
       record {
         remains = refl;
         kept = kept-itself 0 (65 * 0) nums₀ dens₀;
+        notes = record { heads-length = refl; inputs-length = refl; heads-beyond = λ k far. refl; inputs-beyond = λ k far. refl };
         sound = record { good = λ k below. absurd (omega arith) };
         calls = record { head = λ t below. absurd (omega arith); input = λ t i below place. absurd (omega arith) };
       }
@@ -65,44 +67,47 @@ module _ (terms : List Term) (nums₀ dens₀ : List ℤ) where
     kept-more first second n below =
         kept-then (kept-within first 0 (65 * n) (omega arith) (omega arith)) (kept-within second 0 (65 * n) (omega arith) (omega arith))
 
-    module _ {step : Step} {heads inputs : List ℕ} (below : t < length terms) (row-built : RowBuilt (kindAt terms t) t step nums dens nums′ dens′) (rising : Rising terms t nums₀ dens₀ nums dens heads inputs) where
+    module _ {step : Step} {heads inputs : List ℕ} (below : t < length terms) (row-built : RowBuilt (kindAt terms t) t step nums dens nums′ dens′) (rising : Rising terms t nums₀ dens₀ nums dens heads₀ inputs₀ heads inputs) where
       -- what remains, by what the rule makes of the next row
       remains-next : (next : Made ℕ Row) → row (builtColumn (tableAt t nums dens) t (kindAt terms t)) ≡ next → built terms [] ≡ next >>= λ r. built (drop (t + 1) terms) (tableAt t nums dens ++ (r ∷ []))
       remains-next next e =
           rising .remains ∙ built-next terms t (tableAt t nums dens) below (table-length t nums dens) ∙ ap (λ m. m >>= λ r. built (drop (t + 1) terms) (tableAt t nums dens ++ (r ∷ []))) e
 
       -- One row more is built.
-      pub rising-goes-on : {heads′ inputs′ : List ℕ} → step ≡ Done → Calls terms (t + 1) heads′ inputs′ → Rising terms (t + 1) nums₀ dens₀ nums′ dens′ heads′ inputs′
+      pub rising-goes-on : {heads′ inputs′ : List ℕ} → step ≡ Done → NotesKept (t + 1) heads₀ inputs₀ heads′ inputs′ → Calls terms (t + 1) heads′ inputs′ → Rising terms (t + 1) nums₀ dens₀ nums′ dens′ heads₀ inputs₀ heads′ inputs′
       unfolding _>>=_
-      rising-goes-on done calls =
+      rising-goes-on done notes calls =
           record {
             remains =
                 remains-next (made (rowAt nums′ dens′ (65 * t))) (finished-done (row-built .ends) done)
                 ∙ ap (λ table. built (drop (t + 1) terms) (table ++ (rowAt nums′ dens′ (65 * t) ∷ []))) (sym (table-kept t (row-built .kept)))
                 ∙ ap (built (drop (t + 1) terms)) (sym (table-more t nums′ dens′));
             kept = kept-more (rising .kept) (row-built .kept) (t + 1) (omega arith);
+            notes = notes;
             sound = row-built .sound done;
             calls = calls;
           }
 
       -- The next row is refused: so is the table.
-      pub rising-stops : {heads′ inputs′ : List ℕ} (n number : ℕ) → n ≡ length terms → step ≡ Refused number → TableBuilt terms n (Refused number) nums₀ dens₀ nums′ dens′ heads′ inputs′
+      pub rising-stops : {heads′ inputs′ : List ℕ} (n number : ℕ) → n ≡ length terms → NotesKept n heads₀ inputs₀ heads′ inputs′ → step ≡ Refused number → TableBuilt terms n (Refused number) nums₀ dens₀ nums′ dens′ heads₀ inputs₀ heads′ inputs′
       unfolding finished _>>=_
-      rising-stops n number sized stops =
+      rising-stops n number sized notes stops =
           record {
             ends = remains-next (stopped number) (finished-refused (rowAt nums′ dens′ (65 * t)) (row-built .ends) stops);
             kept = kept-more (rising .kept) (row-built .kept) n (omega arith);
+            notes = notes;
             sound = λ done. absurd (refused-not-done done);
             calls = λ done. absurd (refused-not-done done);
           }
 
   -- All rows are built.
-  pub rising-ends : (n : ℕ) {nums dens : List ℤ} {heads inputs : List ℕ} → n ≡ length terms → Rising terms n nums₀ dens₀ nums dens heads inputs → TableBuilt terms n Done nums₀ dens₀ nums dens heads inputs
+  pub rising-ends : (n : ℕ) {nums dens : List ℤ} {heads inputs : List ℕ} → n ≡ length terms → Rising terms n nums₀ dens₀ nums dens heads₀ inputs₀ heads inputs → TableBuilt terms n Done nums₀ dens₀ nums dens heads₀ inputs₀ heads inputs
   unfolding finished built
   rising-ends n {nums} {dens} sized rising =
       record {
         ends = rising .remains ∙ ap (λ rest. built rest (tableAt n nums dens)) (ap (λ k. drop k terms) sized ∙ drop-length terms);
         kept = rising .kept;
+        notes = rising .notes;
         sound = λ done. rising .sound;
         calls = λ done. rising .calls;
       }

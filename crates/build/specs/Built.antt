@@ -10,12 +10,13 @@ use Rattle.table.specs.declared.Step.{Step}
 use Rattle.table.specs.declared.Step.the-variants.{Done}
 use Rattle.table.specs.Held.{tableAt, SoundTo, finished}
 use Rattle.table.specs.Loop.{Kept}
-use Rattle.table.specs.Calls.{Calls}
+use Rattle.table.specs.Calls.{Calls, NotesKept}
 
--- The rows of the terms are those that the rule builds, or the rule refuses one of them; no place behind them has changed; where
--- all are built, they are sound, and the lookups are noted.
-pub record TableBuilt (terms : List Term) (n : ℕ) (step : Step) (nums₀ dens₀ nums dens : List ℤ) (heads inputs : List ℕ) : Type 0 where
+-- The rows of the terms are those that the rule builds, or the rule refuses one of them; no place behind them, or behind what is
+-- noted of the terms, has changed; where all are built, they are sound, and the lookups are noted.
+pub record TableBuilt (terms : List Term) (n : ℕ) (step : Step) (nums₀ dens₀ nums dens : List ℤ) (heads₀ inputs₀ heads inputs : List ℕ) : Type 0 where
   pub ends : built terms [] ≡ finished step (tableAt n nums dens)
   pub kept : Kept 0 (65 * n) nums₀ dens₀ nums dens
+  pub notes : NotesKept n heads₀ inputs₀ heads inputs
   pub sound : step ≡ Done → SoundTo (65 * n) nums dens
   pub calls : step ≡ Done → Calls terms n heads inputs

@@ -27,7 +27,7 @@ pub fn build(
     requires { ⌜ n ≡ field (now bytes) 0 8 ⌝ }
     requires { ⌜ (4160 ≤ length (now nums)) × (4160 ≤ length (now dens)) ⌝ }
     requires { ⌜ (length (now heads) ≡ 64) × (length (now inputs) ≡ 192) ⌝ }
-    ensures { λ r. ⌜ ((problem : Problem) → decoded (now (bytes .entry)) ≡ made problem → TableBuilt (problem .terms) n r (now (nums .entry)) (now (dens .entry)) (now (nums .exit)) (now (dens .exit)) (now (heads .exit)) (now (inputs .exit))) ⌝ }
+    ensures { λ r. ⌜ ((problem : Problem) → decoded (now (bytes .entry)) ≡ made problem → TableBuilt (problem .terms) n r (now (nums .entry)) (now (dens .entry)) (now (nums .exit)) (now (dens .exit)) (now (heads .entry)) (now (inputs .entry)) (now (heads .exit)) (now (inputs .exit))) ⌝ }
 {
     let mut t: usize = 0;
     while t < n {

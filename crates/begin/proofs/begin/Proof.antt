@@ -103,7 +103,7 @@ returns c =
         kept-then (b .build .ensures (held .problem) (held .same) .kept) (closing .close .ensures .1 .0),
         (
           while-going (c .placed .result) (record { held = held; terms = s .pre .1 .0; sound = closing .close .ensures .1 .1 .0; lookups = noted told; below = below told }),
-          c .placed .ensures .1,
+          (c .placed .ensures .1, b .build .ensures (held .problem) (held .same) .notes),
         ),
       ),
     )
@@ -127,7 +127,7 @@ returns-2 c =
     let s = start b in
     let held = s .pre .0 in (
       λ p e. begin-refused byNumber (p .terms) (finished-refused _ (b .build .ensures p e .ends) (c .before .number .given .1)),
-      (b .build .ensures (held .problem) (held .same) .kept, (tt, tt)),
+      (b .build .ensures (held .problem) (held .same) .kept, (tt, (tt, b .build .ensures (held .problem) (held .same) .notes))),
     )
 
 pub begin-spec : {M : Type 1} → statement M

@@ -1,16 +1,16 @@
 use Rattle.build.proofs.Decoded.{term-buildable, kind-there}
-use Rattle.build.proofs.Noted.{calls-noted}
+use Rattle.build.proofs.Noted.{calls-noted, notes-more}
 use Rattle.build.proofs.Rows.{Rising, rising-starts, rising-goes-on, rising-stops, rising-ends}
 use Rattle.reader.proofs.Holding.{holding, terms-count}
 use Rattle.fraction.specs.Made.{made}
 use Rattle.problem.specs.Bits.{field}
 use Rattle.problem.specs.Problem.{Problem, decoded}
 use Rattle.problem.specs.Lookup.{kindAt}
-use Rattle.table.specs.Calls.{Calls}
+use Rattle.table.specs.Calls.{Calls, NotesKept}
 use Rattle.build_rows.specs.Buildable.{Written, Buildable}
 use Rattle.build_rows.specs.Built.{RowBuilt}
 use native.Mathlib.Omega.{arith}
-use Prim.Native.Nat.{_+_, _-_, _≤_, _<_}
+use Prim.Native.Nat.{ℕ, _+_, _-_, _≤_, _<_}
 use lib.ListN.{length}
 use mathlib.Core.Path.{_≡_, refl, sym, _∙_, subst}
 use borrow.Author.Needs.{needs}
@@ -20,7 +20,7 @@ use Rattle.build.proofs.build.Tie as tie
 -- The rows below t are built, and what remains gives the same.
 abbrev Inv-loop : tie.InvT-loop
 Inv-loop bytes n nums₀ dens₀ heads₀ inputs₀ t₀ nums dens heads inputs t =
-    (t ≤ n) × (length nums ≡ length nums₀) × (length dens ≡ length dens₀) × (length heads ≡ length heads₀) × (length inputs ≡ length inputs₀) × ((p : Problem) → decoded bytes ≡ made p → Rising (p .terms) t nums₀ dens₀ nums dens heads inputs)
+    (t ≤ n) × (length nums ≡ length nums₀) × (length dens ≡ length dens₀) × (length heads ≡ length heads₀) × (length inputs ≡ length inputs₀) × ((p : Problem) → decoded bytes ≡ made p → Rising (p .terms) t nums₀ dens₀ nums dens heads₀ inputs₀ heads inputs)
 
 abbrev μ-loop : tie.MeasureT-loop
 μ-loop bytes n nums₀ dens₀ heads₀ inputs₀ t₀ nums dens heads inputs t = n - t
@@ -64,6 +64,13 @@ noted c p e =
     let (small, below) = within (read .before) in
     calls-noted (p .terms) t (omega (arith, l .loop .inv .3, s .pre .1 .1 .1)) (omega (arith, l .loop .inv .4, s .pre .1 .1 .1))
     (kind-there (s .args .bytes .now) p e t below (read .term-at .ensures)) (c .note-call .ensures .0) (c .note-call .ensures .1) (l .loop .inv .5 p e .calls)
+
+-- and nothing behind the first terms has changed
+kept-notes : (c : tie.After-note-call Inv-loop μ-loop) → let l = c .before .before .before .before .before in let s = start l in (n : ℕ) → l .loop .t < n → NotesKept n (s .args .heads .now) (s .args .inputs .now) (c .note-call .last .1 .1 .0) (c .note-call .last .1 .1 .1 .0)
+kept-notes c n below =
+    let l = c .before .before .before .before .before in
+    let held = start l .pre .0 in
+    notes-more (c .before .before .before .term-at .result .kind) below (c .note-call .ensures .0) (c .note-call .ensures .1) (l .loop .inv .5 (held .problem) (held .same) .notes)
 
 build-term-requires : tie.Need-build-term-requires Inv-loop μ-loop
 build-term-requires c κs =
@@ -111,7 +118,7 @@ loop-again c =
       row .kept .dens-length ∙ l .loop .inv .2,
       note b .note-call .kept .1 .1 .0 ∙ l .loop .inv .3,
       note b .note-call .kept .1 .1 .1 .0 ∙ l .loop .inv .4,
-      λ p e. rising-goes-on (p .terms) (s .args .nums .now) (s .args .dens .now) (l .loop .t) (omega (arith, turn b .loop-test .taken, count s p e)) (row-next b p e) (l .loop .inv .5 p e) (c .enum-told .given .1) (noted (note b) p e),
+      λ p e. rising-goes-on (p .terms) (s .args .nums .now) (s .args .dens .now) (s .args .heads .now) (s .args .inputs .now) (l .loop .t) (omega (arith, turn b .loop-test .taken, count s p e)) (row-next b p e) (l .loop .inv .5 p e) (c .enum-told .given .1) (kept-notes (note b) (l .loop .t + 1) (omega arith)) (noted (note b) p e),
     )
 
 enum-known-number : tie.Need-enum-known-number Inv-loop μ-loop
@@ -134,7 +141,7 @@ returns c p e =
     let b = c .before .before .before .before .before in
     let l = turn b .before in
     let s = start l in
-    rising-stops (p .terms) (s .args .nums .now) (s .args .dens .now) (l .loop .t) (omega (arith, turn b .loop-test .taken, count s p e)) (row-next b p e) (l .loop .inv .5 p e) (s .args .n) (c .before .number .given .0 .0) (count s p e) (c .before .number .given .1)
+    rising-stops (p .terms) (s .args .nums .now) (s .args .dens .now) (s .args .heads .now) (s .args .inputs .now) (l .loop .t) (omega (arith, turn b .loop-test .taken, count s p e)) (row-next b p e) (l .loop .inv .5 p e) (s .args .n) (c .before .number .given .0 .0) (count s p e) (kept-notes (note b) (s .args .n) (omega (arith, turn b .loop-test .taken))) (c .before .number .given .1)
 
 same-length-5 : tie.Need-same-length-5 Inv-loop μ-loop
 same-length-5 c = search needs
@@ -153,8 +160,8 @@ returns-2 c p e =
     let l = c .before in
     let s = start l in
     let all : l .loop .t ≡ s .args .n = omega arith in
-    rising-ends (p .terms) (s .args .nums .now) (s .args .dens .now) (s .args .n) (count s p e)
-    (subst (λ t. Rising (p .terms) t (s .args .nums .now) (s .args .dens .now) (l .loop .nums) (l .loop .dens) (l .loop .heads) (l .loop .inputs)) all (l .loop .inv .5 p e))
+    rising-ends (p .terms) (s .args .nums .now) (s .args .dens .now) (s .args .heads .now) (s .args .inputs .now) (s .args .n) (count s p e)
+    (subst (λ t. Rising (p .terms) t (s .args .nums .now) (s .args .dens .now) (l .loop .nums) (l .loop .dens) (s .args .heads .now) (s .args .inputs .now) (l .loop .heads) (l .loop .inputs)) all (l .loop .inv .5 p e))
 
 pub build-spec : {M : Type 1} → statement M
 build-spec =

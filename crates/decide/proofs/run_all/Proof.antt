@@ -17,7 +17,7 @@ assume-all-requires c κs =
     let start = c .before .before .before .before .before .before .before .before .before .before .before .before .before .before .before .before .before .before .before .before .before in
     let told = c .before .before .before .before .before .solved .given .1 in
     let begun = c .before .before .before .before .before .before .before .before .before .before .before .before .before .begin .ensures in
-    (going-holds told (begun .1 .1 .0), ((start .pre .1 .0 .1, going-most told (begun .1 .1 .1)), (search needs, search needs)))
+    (going-holds told (begun .1 .1 .0), ((start .pre .1 .0 .1, going-most told (begun .1 .1 .1 .0)), (search needs, search needs)))
 
 enum-known-answer : tie.Need-enum-known-answer
 enum-known-answer c = search needs

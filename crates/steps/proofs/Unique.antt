@@ -1,0 +1,42 @@
+-- What the rule makes fixes how far the run has come.
+-- Main results: `ran-determined`, `going-determined`, `placed-unique`. Assume nothing.
+use mathlib.Core.Path.{_≡_, refl, sym, ap, _∙_}
+use mathlib.Core.List.{[]}
+use Prim.Native.Nat.{ℕ}
+use Rattle.answer.specs.declared.Answer.{Answer}
+use Rattle.fraction.specs.Made.{Made, made, stopped, because}
+use Rattle.run.specs.Row.{Table}
+use Rattle.run.specs.Merge.{State}
+use Rattle.run.specs.Run.{ends}
+use Rattle.close.specs.declared.Closed.{Closed}
+use Rattle.close.specs.Outcome.{closed}
+use Rattle.steps.specs.declared.Ran.{Ran}
+use Rattle.steps.specs.declared.Ran.the-variants.{Going, Ended}
+use Rattle.steps.specs.Ran.{ran}
+
+ranOf : Made Answer State → Ran
+ranOf (made state) = Going (state .solved)
+ranOf (stopped answer) = Ended answer
+
+ran-back : (r : Ran) (table : Table) → ranOf (ran r table) ≡ r
+unfolding ran ranOf
+ran-back (Going solved) table = refl
+ran-back (Ended answer) table = refl
+
+module _ {m : Made Answer State} (r s : Ran) (table other : Table) (p : m ≡ ran r table) (q : m ≡ ran s other) where
+  -- There is one answer,
+  pub ran-determined : r ≡ s
+  ran-determined = sym (ran-back r table) ∙ ap ranOf (sym p ∙ q) ∙ ran-back s other
+
+  -- and one table of a run that goes on.
+  pub going-determined : {count : ℕ} → r ≡ Going count → table ≡ other
+  unfolding ran
+  going-determined {count} going =
+      let first : m ≡ made (record { table = table; solved = count }) = p ∙ ap (λ x. ran x table) going in
+      let second : m ≡ made (record { table = other; solved = count }) = q ∙ ap (λ x. ran x other) (sym ran-determined ∙ going) in
+      let states : _≡_ {A = State} (record { table = table; solved = count }) (record { table = other; solved = count }) = cc in
+      ap (λ state. state .table) states
+
+-- No second answer satisfies the contract of `placed`.
+pub placed-unique : (place : ℕ) (closing : Closed) (r s : Ran) → ((table : Table) → because (ends place) (closed closing table) ≡ ran r table) → ((table : Table) → because (ends place) (closed closing table) ≡ ran s table) → r ≡ s
+placed-unique place closing r s p q = ran-determined r s [] [] (p []) (q [])

@@ -3,75 +3,9 @@
 use libc::STDIN_FILENO;
 use libc::STDOUT_FILENO;
 use reader::Read;
-ghost use Prim.Native.Nat.{_≤_, _<_};
-ghost use lib.ListN.{length};
-ghost use Rattle.io.specs.Counts.{Counts};
 
-enum Said {
-    Value(u8),
-    Other,
-}
-
-// What a byte says as a hexadecimal digit.
-fn digit(b: u8) -> Said {
-    match b {
-        48..=57 => Said::Value(b - 48),
-        97..=102 => Said::Value(b - 87),
-        _ => Said::Other,
-    }
-}
-
-// The byte that two digits say, in a byte; no number above 255.
-fn byte(text: &[u8], at: usize) -> Said {
-    if text.len() < 2 {
-        return Said::Other;
-    }
-    if text.len() - 2 < at {
-        return Said::Other;
-    }
-    let Said::Value(high) = digit(text[at]) else {
-        return Said::Other;
-    };
-    let Said::Value(low) = digit(text[at + 1]) else {
-        return Said::Other;
-    };
-    Said::Value(joined(high, low))
-}
-
-fn joined(high: u8, low: u8) -> u8 {
-    (high % 16) * 16 + low % 16
-}
-
-// The bytes of the line that begins at `at`, put into `bytes`: how many.
-fn fill(text: &[u8], at: usize, bytes: &mut [u8]) -> usize
-    requires { ⌜ (at ≤ length (now text)) × (length (now bytes) ≤ 1024) ⌝ }
-    ensures { λ r. ⌜ Counts r (now (bytes .exit)) ⌝ }
-{
-    let mut k: usize = 0;
-    while k < bytes.len() {
-        let Said::Value(b) = byte(text, at + 2 * k) else {
-            return k;
-        };
-        bytes[k] = b;
-        k += 1;
-    }
-    k
-}
-
-// The place behind the line that `at` stands on.
-fn after_line(text: &[u8], at: usize) -> usize
-    requires { ⌜ at < length (now text) ⌝ }
-    ensures { λ r. ⌜ (at < r) × (r ≤ length (now (text .entry))) ⌝ }
-{
-    let mut i = at;
-    while i < text.len() {
-        if text[i] == 10 {
-            return i + 1;
-        }
-        i += 1;
-    }
-    i
-}
+// 645 bytes are enough to judge any length.
+const INPUT: usize = 1024;
 
 fn number(n: usize) {
     io::write_all(STDOUT_FILENO, b" ");
@@ -96,14 +30,21 @@ fn answer(bytes: &[u8]) {
     io::write_all(STDOUT_FILENO, b"\n");
 }
 
+fn answer_line(line: &[u8]) {
+    let mut bytes = [0u8; INPUT];
+    let n = hex::read(line, &mut bytes);
+    if n <= INPUT {
+        let read = &bytes[0..n];
+        answer(read);
+    }
+}
+
 fn each_line(text: &[u8]) {
-    // 645 bytes are enough to judge any length.
-    let mut bytes = [0u8; 1024];
     let mut at: usize = 0;
     while at < text.len() {
-        let n = fill(text, at, &mut bytes);
-        answer(&bytes[..n]);
-        at = after_line(text, at);
+        let rest = &text[at..];
+        answer_line(rest);
+        at += hex::line_length(rest);
     }
 }
 

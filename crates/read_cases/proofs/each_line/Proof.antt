@@ -1,59 +1,44 @@
-use borrow.Author.Needs.{needs}
-use mathlib.Core.Path.{_≡_}
-use Prim.Native.Nat.{_-_, _≤_}
+-- `read_cases::each_line` ends: the text left falls at each line. Assumes nothing.
+use Prim.Native.Nat.{_≤_, _-_}
 use native.Mathlib.Omega.{arith}
-use lib.ListN.{length, length-set}
+use lib.ListN.{length}
+use borrow.Author.Needs.{needs}
 use Rattle.read_cases.proofs.each_line.Statement.{statement}
 use Rattle.read_cases.proofs.each_line.Tie as tie
-use Rattle.read_cases.proofs.each_line.Reads as reads
-use Rattle.read_cases.proofs.each_line.Lts as lts
-use Rattle.read_cases.proofs.after_line.Reads as after-line-reads
-use Rattle.read_cases.proofs.answer.Reads as answer-reads
-use Rattle.read_cases.proofs.fill.Reads as fill-reads
 
 abbrev Inv-loop : tie.InvT-loop
-Inv-loop text bytes₀ at₀ bytes at = (at ≤ length text) × (length bytes ≡ 1024)
+Inv-loop text at₀ at = at ≤ length text
 
 abbrev μ-loop : tie.MeasureT-loop
-μ-loop text bytes₀ at₀ bytes at = length text - at
+μ-loop text at₀ at = length text - at
 
--- src/main.rt:103:5
 loop-holds : tie.Need-loop-holds Inv-loop μ-loop
 loop-holds c = search needs
 
--- src/main.rt:104:32
-slice-aggregate-fill : tie.Need-slice-aggregate-fill Inv-loop μ-loop
-slice-aggregate-fill c = search needs
+sub-rest : tie.Need-sub-rest Inv-loop μ-loop
+sub-rest c = search needs
 
--- src/main.rt:104:13
-fill-requires : tie.Need-fill-requires Inv-loop μ-loop
-fill-requires c κs = search needs
+part-rest-start : tie.Need-part-rest-start Inv-loop μ-loop
+part-rest-start c = search needs
 
--- src/main.rt:105:16
-array-share-prefix-bytes : tie.Need-array-share-prefix-bytes Inv-loop μ-loop
-array-share-prefix-bytes c = search needs
+part-rest-end : tie.Need-part-rest-end Inv-loop μ-loop
+part-rest-end c = search needs
 
--- src/main.rt:105:16
-slice-aggregate-answer : tie.Need-slice-aggregate-answer Inv-loop μ-loop
-slice-aggregate-answer c = search needs
+answer-line-requires : tie.Need-answer-line-requires Inv-loop μ-loop
+answer-line-requires c κs = search needs
 
--- src/main.rt:105:9
-answer-requires : tie.Need-answer-requires Inv-loop μ-loop
-answer-requires c κs = search needs
+line-length-requires : tie.Need-line-length-requires Inv-loop μ-loop
+line-length-requires c κs = search needs
 
--- src/main.rt:106:9
-after-line-requires : tie.Need-after-line-requires Inv-loop μ-loop
-after-line-requires c κs = search needs
+add-at : tie.Need-add-at Inv-loop μ-loop
+add-at c = search needs
 
--- src/main.rt:103:5
 loop-less : tie.Need-loop-less Inv-loop μ-loop
-loop-less c = search needs
+loop-less c = let on = c .line-length .ensures .onward (omega arith) in omega (arith, on)
 
--- src/main.rt:103:5
 loop-again : tie.Need-loop-again Inv-loop μ-loop
 loop-again c = search needs
 
--- src/main.rt:99:1
 returns : tie.Need-returns Inv-loop μ-loop
 returns c = search needs
 
@@ -64,12 +49,12 @@ each-line-spec =
     Inv-loop
     μ-loop
     loop-holds
-    slice-aggregate-fill
-    fill-requires
-    array-share-prefix-bytes
-    slice-aggregate-answer
-    answer-requires
-    after-line-requires
+    sub-rest
+    part-rest-start
+    part-rest-end
+    answer-line-requires
+    line-length-requires
+    add-at
     loop-less
     loop-again
     returns)

@@ -1,0 +1,2 @@
+mod Behind
+pub mod Unique

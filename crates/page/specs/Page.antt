@@ -1,0 +1,37 @@
+-- The listing of a decided problem in a buffer, line by line.
+-- Main definitions: `listRows`, `listPage`. Assumes nothing.
+use mathlib.Core.List.{List}
+use Prim.Native.Nat.{ℕ, zero, suc}
+use lib.IntN.{ℤ}
+use Rattle.answer.specs.declared.Answer.{Answer}
+use Rattle.answer.specs.declared.Answer.the-variants.{Entailed, NotEntailed, Contradictory, Refused}
+use Rattle.answer.specs.Refusals.{Refusal}
+use Rattle.fraction.specs.Made.{Made, made, stopped}
+use Rattle.listing.specs.Listing.{Listed, listRow}
+use Rattle.lines.specs.Leaves.{listFirst}
+
+-- 01, The listing: "For entailed and not-entailed a line for each term below n follows"
+unfoldable pub rowsListed : Answer → (n : ℕ) → ℕ
+rowsListed (Entailed solved) n = n
+rowsListed (NotEntailed solved) n = n
+rowsListed (Contradictory place) n = 0
+rowsListed (Refused number place) n = 0
+
+-- What is listed behind a line, at the place reached; behind a refused line nothing is.
+unfoldable pub behind : (next : (place : ℕ) → (buffer : List ℕ) → Listed) → Made Refusal ℕ → (buffer : List ℕ) → Listed
+behind next (made place) buffer = next place buffer
+behind next (stopped refusal) buffer = record { reached = stopped refusal; buffer = buffer }
+
+module _ (numerators denominators : List ℤ) where
+  -- the lines of row t and of those after it, `count` in all
+  unfoldable pub listRows : (count t place : ℕ) → (buffer : List ℕ) → Listed
+  listRows zero t place buffer = record { reached = made place; buffer = buffer }
+  listRows (suc count) t place buffer =
+      let line = listRow numerators denominators t place buffer in
+      behind (listRows count (suc t)) (line .reached) (line .buffer)
+
+  -- "writes a first line: (..). For entailed and not-entailed a line for each term below n follows"
+  unfoldable pub listPage : Answer → (n place : ℕ) → (buffer : List ℕ) → Listed
+  listPage answer n place buffer =
+      let line = listFirst answer place buffer in
+      behind (listRows (rowsListed answer n) 0) (line .reached) (line .buffer)

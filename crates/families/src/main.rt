@@ -1,0 +1,190 @@
+// Families of problems that say the same: a plain line is a problem in hexadecimal digits, whose listing is written; a line that begins
+// with `~` is one to be compared with it, by word, count and all places of both lists: `same`, or what differs. A line that begins with
+// `#` is a remark, written as it stands.
+use answer::Answer;
+
+const TEXT: usize = 131072;
+
+// 645 bytes are enough to judge any length.
+const INPUT: usize = 1024;
+
+const PLACES: usize = 4160;
+
+fn wide(x: u8) -> usize {
+    x as usize
+}
+
+// The number of terms that a byte string says it has.
+fn terms(bytes: &[u8]) -> usize {
+    if bytes.len() == 0 {
+        return 0;
+    }
+    wide(bytes[0])
+}
+
+// The word of an answer, as a number.
+fn word(answer: Answer) -> u8 {
+    match answer {
+        Answer::Entailed { solved: _ } => 0,
+        Answer::NotEntailed { solved: _ } => 1,
+        Answer::Contradictory { place: _ } => 2,
+        Answer::Refused {
+            number: _,
+            place: _,
+        } => 3,
+    }
+}
+
+// The unknowns solved. A contradiction has none: its place is that of an assumption, which another order moves.
+fn count(answer: Answer) -> usize {
+    match answer {
+        Answer::Entailed { solved } => solved,
+        Answer::NotEntailed { solved } => solved,
+        Answer::Contradictory { place: _ } => 0,
+        Answer::Refused {
+            number: _,
+            place: _,
+        } => 0,
+    }
+}
+
+// The first place at which two lists differ, or the first one's length.
+fn difference(one: &[i32], other: &[i32]) -> usize {
+    let mut k: usize = 0;
+    while k < one.len() {
+        if other.len() <= k {
+            return k;
+        }
+        if one[k] != other[k] {
+            return k;
+        }
+        k += 1;
+    }
+    k
+}
+
+fn differs(what: &[u8], place: usize) {
+    io::write_all(1, what);
+    io::print_decimal(1, place as u64);
+    io::write_all(1, b"\n");
+}
+
+// The lists of two problems that have one word and one count.
+fn compare_lists(nums: &[i32], dens: &[i32], base_nums: &[i32], base_dens: &[i32]) {
+    let num = difference(nums, base_nums);
+    if num < PLACES {
+        return differs(b"differs: the numerator at ", num);
+    }
+    let den = difference(dens, base_dens);
+    if den < PLACES {
+        return differs(b"differs: the denominator at ", den);
+    }
+    io::write_all(1, b"same\n");
+}
+
+fn compare(
+    answer: Answer,
+    base: Answer,
+    nums: &[i32],
+    dens: &[i32],
+    base_nums: &[i32],
+    base_dens: &[i32],
+) {
+    if word(answer) == 3 {
+        return print::listing(answer, nums, dens, 0);
+    }
+    if word(answer) != word(base) {
+        io::write_all(1, b"differs: the word\n");
+        return;
+    }
+    if count(answer) != count(base) {
+        io::write_all(1, b"differs: the count\n");
+        return;
+    }
+    compare_lists(nums, dens, base_nums, base_dens);
+}
+
+// A problem of the family, decided in lists of its own that hold something else before.
+fn member(bytes: &[u8], base: Answer, base_nums: &[i32], base_dens: &[i32]) {
+    let mut nums = [-1i32; PLACES];
+    let mut dens = [-1i32; PLACES];
+    let answer = decide::decide(bytes, &mut nums, &mut dens);
+    compare(answer, base, &nums, &dens, base_nums, base_dens);
+}
+
+// The first problem of a family.
+fn first(bytes: &[u8], nums: &mut [i32], dens: &mut [i32]) -> Answer {
+    let answer = decide::decide(bytes, nums, dens);
+    print::listing(answer, nums, dens, terms(bytes));
+    answer
+}
+
+// The bytes of a line, decided: as a member of the family, or as the first of the next.
+fn problem(
+    is_member: bool,
+    bytes: &[u8],
+    base: Answer,
+    nums: &mut [i32],
+    dens: &mut [i32],
+) -> Answer {
+    if is_member {
+        member(bytes, base, nums, dens);
+        return base;
+    }
+    first(bytes, nums, dens)
+}
+
+fn read(
+    is_member: bool,
+    digits: &[u8],
+    base: Answer,
+    nums: &mut [i32],
+    dens: &mut [i32],
+) -> Answer {
+    let mut bytes = [0u8; INPUT];
+    let n = hex::read(digits, &mut bytes);
+    if n <= INPUT {
+        let read = &bytes[0..n];
+        return problem(is_member, read, base, nums, dens);
+    }
+    base
+}
+
+// A line, and the answer of the family's first problem after it.
+fn line(text: &[u8], base: Answer, nums: &mut [i32], dens: &mut [i32]) -> Answer {
+    if text.len() == 0 {
+        return base;
+    }
+    let mark = text[0];
+    match mark {
+        b'#' => {
+            io::write_all(1, text);
+            base
+        }
+        b'~' => {
+            let digits = &text[1..];
+            read(true, digits, base, nums, dens)
+        }
+        _ => read(false, text, base, nums, dens),
+    }
+}
+
+fn each_line(text: &[u8], nums: &mut [i32], dens: &mut [i32]) {
+    let mut base = Answer::Contradictory { place: 0 };
+    let mut at: usize = 0;
+    while at < text.len() {
+        let rest = &text[at..];
+        let length = hex::line_length(rest);
+        let first_line = &rest[0..length];
+        base = line(first_line, base, nums, dens);
+        at += length;
+    }
+}
+
+fn main() {
+    let mut text = [0u8; TEXT];
+    let n = io::read_full(0, &mut text);
+    let mut nums = [0i32; PLACES];
+    let mut dens = [0i32; PLACES];
+    each_line(&text[..n], &mut nums, &mut dens);
+}

@@ -5,15 +5,12 @@ const INPUT: usize = 645;
 
 const PLACES: usize = 4160;
 
-fn wide(x: u8) -> usize {
-    x as usize
-}
-
 fn main() {
     let mut input = [0u8; INPUT];
     let got = io::read_full(0, &mut input);
     let mut nums = [0i32; PLACES];
     let mut dens = [0i32; PLACES];
-    let answer = decide::decide(&input[..got], &mut nums, &mut dens);
-    print::listing(answer, &nums, &dens, wide(input[0]));
+    let bytes = &input[..got];
+    let answer = decide::decide(bytes, &mut nums, &mut dens);
+    print::listing(bytes, answer, &nums, &dens);
 }

@@ -10,17 +10,8 @@ const INPUT: usize = 1024;
 
 const PLACES: usize = 4160;
 
-fn wide(x: u8) -> usize {
-    x as usize
-}
-
-// The number of terms that a byte string says it has.
-fn terms(bytes: &[u8]) -> usize {
-    if bytes.len() == 0 {
-        return 0;
-    }
-    wide(bytes[0])
-}
+// The number of the word `refused`.
+const REFUSED: u8 = 3;
 
 // The word of an answer, as a number.
 fn word(answer: Answer) -> u8 {
@@ -31,7 +22,7 @@ fn word(answer: Answer) -> u8 {
         Answer::Refused {
             number: _,
             place: _,
-        } => 3,
+        } => REFUSED,
     }
 }
 
@@ -82,6 +73,7 @@ fn compare_lists(nums: &[i32], dens: &[i32], base_nums: &[i32], base_dens: &[i32
     io::write_all(1, b"same\n");
 }
 
+// By word, count, and all places of both lists.
 fn compare(
     answer: Answer,
     base: Answer,
@@ -90,9 +82,6 @@ fn compare(
     base_nums: &[i32],
     base_dens: &[i32],
 ) {
-    if word(answer) == 3 {
-        return print::listing(answer, nums, dens, 0);
-    }
     if word(answer) != word(base) {
         io::write_all(1, b"differs: the word\n");
         return;
@@ -104,18 +93,21 @@ fn compare(
     compare_lists(nums, dens, base_nums, base_dens);
 }
 
-// A problem of the family, decided in lists of its own that hold something else before.
+// A problem of the family, decided in lists of its own that hold something else before. A refused one is not compared.
 fn member(bytes: &[u8], base: Answer, base_nums: &[i32], base_dens: &[i32]) {
     let mut nums = [-1i32; PLACES];
     let mut dens = [-1i32; PLACES];
     let answer = decide::decide(bytes, &mut nums, &mut dens);
+    if word(answer) == REFUSED {
+        return print::listing(bytes, answer, &nums, &dens);
+    }
     compare(answer, base, &nums, &dens, base_nums, base_dens);
 }
 
 // The first problem of a family.
 fn first(bytes: &[u8], nums: &mut [i32], dens: &mut [i32]) -> Answer {
     let answer = decide::decide(bytes, nums, dens);
-    print::listing(answer, nums, dens, terms(bytes));
+    print::listing(bytes, answer, nums, dens);
     answer
 }
 

@@ -12,10 +12,22 @@ fn place_of(reached: Reached) -> usize {
     }
 }
 
-// Writes the listing of a decided problem of n terms.
-pub fn listing(answer: Answer, nums: &[i32], dens: &[i32], n: usize) {
+fn wide(x: u8) -> usize {
+    x as usize
+}
+
+// 01, The problem record: the first byte of the header is the term count.
+fn terms(bytes: &[u8]) -> usize {
+    if bytes.len() == 0 {
+        return 0;
+    }
+    wide(bytes[0])
+}
+
+// Writes the listing of a byte string that was decided so.
+pub fn listing(bytes: &[u8], answer: Answer, nums: &[i32], dens: &[i32]) {
     let mut text = [0u8; PAGE];
-    let end = place_of(page::listing_into(&mut text, 0, answer, nums, dens, n));
+    let end = place_of(page::listing_into(&mut text, 0, answer, nums, dens, terms(bytes)));
     if end <= PAGE {
         let written = &text[0..end];
         io::write_all(1, written);

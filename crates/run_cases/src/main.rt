@@ -8,21 +8,9 @@ const PLACES: usize = 4160;
 
 const TOO_FEW: usize = 4159;
 
-fn wide(x: u8) -> usize {
-    x as usize
-}
-
-// The number of terms that a byte string says it has.
-fn terms(bytes: &[u8]) -> usize {
-    if bytes.len() == 0 {
-        return 0;
-    }
-    wide(bytes[0])
-}
-
 fn decided(bytes: &[u8], nums: &mut [i32], dens: &mut [i32]) {
     let answer = decide::decide(bytes, nums, dens);
-    print::listing(answer, nums, dens, terms(bytes));
+    print::listing(bytes, answer, nums, dens);
 }
 
 fn whole(bytes: &[u8]) {

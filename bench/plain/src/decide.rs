@@ -39,15 +39,25 @@ const RANGE: u8 = 7;
 pub fn decide(bytes: &[u8], nums: &mut [i32], dens: &mut [i32]) -> Answer {
     decide_or_stop(bytes, nums, dens).unwrap_or_else(|(stop, place)| match stop {
         Stop::Contradictory => Answer::Contradictory { place },
-        Stop::Limit(_) => Answer::Refused { number: RANGE, place },
+        Stop::Limit(_) | Stop::LimitInClosing(_) => Answer::Refused { number: RANGE, place },
     })
 }
 
-/// The step in which the run of a problem leaves the limits, if it does.
-pub fn limit_reached(bytes: &[u8]) -> Option<Step> {
+/// Where the run of a problem leaves the limits.
+#[derive(Clone, Copy, PartialEq, Eq, Debug)]
+pub struct Limit {
+    /// The step that made the number.
+    pub step: Step,
+    /// Whether the step was one of closing.
+    pub closing: bool,
+}
+
+/// Where the run of a problem leaves the limits, if it does.
+pub fn limit_reached(bytes: &[u8]) -> Option<Limit> {
     let (mut nums, mut dens) = ([0; ROWS * COLUMNS], [0; ROWS * COLUMNS]);
     match decide_or_stop(bytes, &mut nums, &mut dens) {
-        Err((Stop::Limit(step), _)) => Some(step),
+        Err((Stop::Limit(step), _)) => Some(Limit { step, closing: false }),
+        Err((Stop::LimitInClosing(step), _)) => Some(Limit { step, closing: true }),
         _ => None,
     }
 }

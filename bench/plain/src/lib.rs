@@ -25,7 +25,7 @@ mod problem;
 mod run;
 mod table;
 
-pub use decide::{decide, limit_reached, Answer};
+pub use decide::{decide, limit_reached, Answer, Limit};
 pub use list::{list_row, listing, LINE};
 pub use problem::MOST_BYTES;
 pub use run::Step;

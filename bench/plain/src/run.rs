@@ -29,8 +29,20 @@ pub enum Step {
 pub enum Stop {
     /// A merge's difference is a constant that is not zero.
     Contradictory,
-    /// A number left the limits.
+    /// A number left the limits while the rows were built or an assumption merged.
     Limit(Step),
+    /// A number left the limits in closing.
+    LimitInClosing(Step),
+}
+
+impl Stop {
+    /// The same, found in closing.
+    fn in_closing(self) -> Stop {
+        match self {
+            Stop::Limit(step) => Stop::LimitInClosing(step),
+            other => other,
+        }
+    }
 }
 
 /// A run under way.
@@ -92,7 +104,7 @@ impl<'p, 't, 'l> Run<'p, 't, 'l> {
     /// Merges congruent lookups until there are none.
     fn close(&mut self) -> Result<(), Stop> {
         while let Some((first, second)) = self.closing.next_pair(self.problem, self.table) {
-            self.merge(first, second)?;
+            self.merge(first, second).map_err(Stop::in_closing)?;
         }
         Ok(())
     }

@@ -52,7 +52,8 @@ fn generators_give_the_same_again() {
 
 /// How many of a generator's problems leave the limits in a step.
 fn reaching(generator: Generator, step: Step) -> usize {
-    (0..1_000).filter(|&index| limit_reached(&generator(2, index)) == Some(step)).count()
+    let reached = (0..1_000).filter_map(|index| limit_reached(&generator(2, index)));
+    reached.filter(|limit| limit.step == step).count()
 }
 
 #[test]

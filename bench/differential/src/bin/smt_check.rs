@@ -1,0 +1,145 @@
+//! Puts the proved library's word for each of some problems before SMT solvers.
+//!
+//! `smt_check [SEED [TIMES]]`. Of each kind of problem some are taken that the
+//! library does not refuse. Not-entailed must be satisfiable with the goal
+//! denied, entailed unsatisfiable then but not before, contradictory
+//! unsatisfiable from the start. Exit status 1 if a solver says otherwise;
+//! problems that it does not know are counted.
+
+#![forbid(unsafe_code)]
+
+use differential::sides::{OURS, WORDS};
+use differential::solver::{Solver, SOLVERS};
+use plain::gen::{self, Generator};
+use plain::{cases, smt, PLACES};
+use std::collections::BTreeMap;
+use std::env;
+use std::error::Error;
+use std::io;
+use std::process::ExitCode;
+use std::sync::atomic::{AtomicUsize, Ordering};
+use std::thread;
+
+/// How many problems are taken of each kind, beside document 01's cases.
+const KINDS: [(&str, Generator, usize); 12] = [
+    ("congruent", gen::congruent, 400),
+    ("permuted", gen::permuted, 120),
+    ("faulty", gen::faulty, 60),
+    ("dense", gen::dense, 100),
+    ("dense_kept_small", gen::dense_kept_small, 60),
+    ("limit_build", gen::limit_build, 60),
+    ("limit_first_close", gen::limit_first_close, 60),
+    ("limit_difference", gen::limit_difference, 60),
+    ("limit_quotient", gen::limit_quotient, 60),
+    ("limit_product", gen::limit_product, 60),
+    ("limit_sum", gen::limit_sum, 60),
+    ("limit_order", gen::limit_order, 60),
+];
+
+/// A problem that is not refused, and its word's number.
+struct Problem {
+    name: String,
+    script: String,
+    word: u8,
+}
+
+/// What a solver said of the problems.
+#[derive(Default)]
+struct Opinion {
+    agreed: BTreeMap<&'static str, usize>,
+    unknown: usize,
+    disagreed: Vec<String>,
+}
+
+fn main() -> Result<ExitCode, Box<dyn Error>> {
+    let numbers = env::args().skip(1).map(|text| text.parse()).collect::<Result<Vec<u64>, _>>()?;
+    let seed = numbers.first().copied().unwrap_or(1);
+    let times = numbers.get(1).copied().unwrap_or(1);
+    let problems = problems(seed, times as usize);
+    let mut disagreed = false;
+    for solver in &SOLVERS {
+        if !solver.is_installed() {
+            println!("{}: not installed, passed over", solver.name);
+            continue;
+        }
+        let opinion = opinion(solver, &problems)?;
+        disagreed |= !opinion.disagreed.is_empty();
+        report(solver, &problems, &opinion, seed);
+    }
+    Ok(ExitCode::from(u8::from(disagreed)))
+}
+
+fn report(solver: &Solver, problems: &[Problem], opinion: &Opinion, seed: u64) {
+    for line in &opinion.disagreed {
+        println!("DISAGREES: {line}");
+    }
+    let (asked, unknown, disagreed) = (problems.len(), opinion.unknown, opinion.disagreed.len());
+    let agreed = &opinion.agreed;
+    println!(
+        "{}: seed {seed}, {asked} problems, {disagreed} disagree, {unknown} unknown; agreed: {agreed:?}",
+        solver.name
+    );
+}
+
+/// The problems: document 01's cases, and the first of each kind that are not
+/// refused.
+fn problems(seed: u64, times: usize) -> Vec<Problem> {
+    let cases = cases::all().into_iter();
+    let mut problems: Vec<Problem> =
+        cases.filter_map(|case| problem(case.name.to_string(), &case.bytes)).collect();
+    for (kind, make, count) in KINDS {
+        let all = (0..).filter_map(|index| problem(format!("{kind} {index}"), &make(seed, index)));
+        problems.extend(all.take(count * times));
+    }
+    problems
+}
+
+/// A problem with the library's word, if that is not a refusal.
+fn problem(name: String, bytes: &[u8]) -> Option<Problem> {
+    let (mut nums, mut dens) = ([0; PLACES], [0; PLACES]);
+    let word = (OURS.decide)(bytes, &mut nums, &mut dens).word;
+    (word != 3).then(|| Problem { name, script: smt::script(bytes), word })
+}
+
+/// What a solver says of all problems, asked on all processors.
+fn opinion(solver: &Solver, problems: &[Problem]) -> io::Result<Opinion> {
+    let next = AtomicUsize::new(0);
+    let threads = thread::available_parallelism().map_or(1, |count| count.get());
+    thread::scope(|scope| {
+        let ask = || ask(solver, problems, &next);
+        let workers: Vec<_> = (0..threads).map(|_| scope.spawn(ask)).collect();
+        let mut all = Opinion::default();
+        for worker in workers {
+            all.merge(worker.join().expect("a thread that ends")?);
+        }
+        Ok(all)
+    })
+}
+
+/// Takes one problem after the other.
+fn ask(solver: &Solver, problems: &[Problem], next: &AtomicUsize) -> io::Result<Opinion> {
+    let mut opinion = Opinion::default();
+    while let Some(problem) = problems.get(next.fetch_add(1, Ordering::Relaxed)) {
+        let word = WORDS[usize::from(problem.word)];
+        match solver.word(&problem.script)? {
+            None => opinion.unknown += 1,
+            Some(same) if same == problem.word => *opinion.agreed.entry(word).or_default() += 1,
+            Some(other) => {
+                let other = WORDS[usize::from(other)];
+                let line = format!("{}: {word}, {} says {other}", problem.name, solver.name);
+                opinion.disagreed.push(line);
+            }
+        }
+    }
+    Ok(opinion)
+}
+
+impl Opinion {
+    fn merge(&mut self, other: Opinion) {
+        for (word, count) in other.agreed {
+            *self.agreed.entry(word).or_default() += count;
+        }
+        self.unknown += other.unknown;
+        self.disagreed.extend(other.disagreed);
+    }
+}

@@ -1,0 +1,142 @@
+//! All comparisons of an input, of a block of inputs and of arbitrary lists.
+
+use crate::deciding::{self, Bench};
+use crate::inputs::{Family, BLOCK};
+use crate::lending::{Lists, Noise, ENOUGH, SHORT};
+use crate::listing::{self, fill_with_fractions, spoil, Pages, Request};
+use crate::sides::{Side, Told};
+use crate::tally::Tally;
+use plain::gen::Random;
+use plain::{PLACES, ROWS};
+
+/// An input on which something differs.
+pub struct Fault {
+    /// The input's family and index.
+    pub name: String,
+    /// The input.
+    pub bytes: Vec<u8>,
+    /// What differs.
+    pub what: String,
+}
+
+/// Compares two sides, one input after the other.
+pub struct Checker<'n> {
+    sides: [Side; 2],
+    seed: u64,
+    noise: &'n Noise,
+    bench: Bench,
+    pages: Pages,
+    /// What was reached so far.
+    pub tally: Tally,
+}
+
+impl<'n> Checker<'n> {
+    /// A checker of two sides.
+    pub fn new(sides: [Side; 2], seed: u64, noise: &'n Noise) -> Checker<'n> {
+        let (bench, pages, tally) = Default::default();
+        Checker { sides, seed, noise, bench, pages, tally }
+    }
+
+    /// Compares the inputs of a block: from `start` on, as many as a block has
+    /// or the family has left.
+    pub fn block(&mut self, family: &Family, start: u64) -> Result<(), Fault> {
+        let mut first_decided = None;
+        for index in start..family.count.min(start + BLOCK) {
+            let bytes = (family.make)(self.seed, index);
+            let compared = self
+                .input(&bytes, index)
+                .and_then(|told| self.same(told, &mut first_decided, family.same));
+            if let Err(what) = compared {
+                return Err(Fault { name: format!("{}-{index}", family.name), bytes, what });
+            }
+        }
+        Ok(())
+    }
+
+    /// Compares everything of one input: a decision over lists that are too
+    /// short, one over lists that are long enough, and rows of what it leaves.
+    pub fn input(&mut self, bytes: &[u8], index: u64) -> Result<Told, String> {
+        let mut random = Random::new("input", self.seed, index);
+        self.noise.fill(&mut self.bench.before, random.bits());
+        for lengths in [random.pick(&SHORT), random.pick(&ENOUGH)] {
+            let told = deciding::compare(self.sides, bytes, lengths, &mut self.bench)?;
+            self.tally.decision(told, bytes);
+            if lengths.suffice() {
+                self.rows(told, &mut random)?;
+                return Ok(told);
+            }
+        }
+        Err("no lengths were enough".to_string())
+    }
+
+    /// Compares the listing of what a decision left: every row of a table,
+    /// some rows of other lists, a spoiled row, and a row that there is not.
+    fn rows(&mut self, told: Told, random: &mut Random) -> Result<(), String> {
+        let rows = if told.word <= 1 { 0..ROWS } else { 0..2 };
+        for row in rows {
+            self.row(Request::of_row(row, random), random)?;
+        }
+        self.row(Request::of_none(random), random)?;
+        let row = random.below(ROWS);
+        spoil(&mut self.bench.first, row, random);
+        let spoiled = self.row(Request::of_row(row, random), random);
+        // The second side's lists were the same and were not spoiled.
+        self.bench.first.set(&self.bench.second);
+        spoiled
+    }
+
+    /// Compares the listing of one row of the first side's lists.
+    fn row(&mut self, request: Request, random: &mut Random) -> Result<(), String> {
+        let before = self.noise.buffer(request.length, random.bits());
+        let lists = &self.bench.first;
+        let listed = listing::compare(self.sides, lists, request, before, &mut self.pages)?;
+        self.tally.row(listed, request);
+        Ok(())
+    }
+
+    /// Compares the listing of lists that no decision left.
+    pub fn arbitrary_lists(&mut self, index: u64) -> Result<(), Fault> {
+        let mut random = Random::new("lists", self.seed, index);
+        fill_with_fractions(&mut self.bench.first, &mut random);
+        let fault = |what| Fault { name: format!("lists-{index}"), bytes: Vec::new(), what };
+        for row in 0..ROWS {
+            if random.chance(20) {
+                spoil(&mut self.bench.first, row, &mut random);
+            }
+            self.row(Request::of_row(row, &mut random), &mut random).map_err(fault)?;
+            self.row(Request::of_none(&mut random), &mut random).map_err(fault)?;
+        }
+        Ok(())
+    }
+
+    /// Holds an answer and the lists to those of the first input of the block
+    /// that was not refused, where all of them say the same.
+    fn same(
+        &self,
+        told: Told,
+        first: &mut Option<(Told, Lists)>,
+        expected: bool,
+    ) -> Result<(), String> {
+        if !expected || told.word == 3 {
+            return Ok(());
+        }
+        let (told, lists) = (without_place(told), &self.bench.first);
+        let Some((other, others)) = first else {
+            *first = Some((told, lists.clone()));
+            return Ok(());
+        };
+        let same = told == *other
+            && lists.nums[..PLACES] == others.nums[..PLACES]
+            && lists.dens[..PLACES] == others.dens[..PLACES];
+        same.then_some(()).ok_or(format!("{told:?}, and {other:?} of the same in another order"))
+    }
+}
+
+/// An answer as far as it is the same for the same problem: the place of a
+/// contradiction names an assumption by its position.
+fn without_place(told: Told) -> Told {
+    match told.word {
+        2 => Told { figure: 0, ..told },
+        _ => told,
+    }
+}

@@ -1,0 +1,44 @@
+//! The two sides of a comparison.
+
+pub use library::{Listed, Told};
+use plain::Answer;
+
+/// An implementation of document 01, as two functions.
+#[derive(Clone, Copy)]
+pub struct Side {
+    /// Decides a problem over two lent lists.
+    pub decide: fn(&[u8], &mut [i32], &mut [i32]) -> Told,
+    /// Lists a row: buffer, place reached, both lists, row.
+    pub list_row: fn(&mut [u8], usize, &[i32], &[i32], usize) -> Listed,
+}
+
+/// The proved library.
+pub const OURS: Side = Side { decide: library::decide, list_row: library::list_row };
+
+/// The implementation in plain Rust.
+pub const PLAIN: Side = Side { decide: plain_decide, list_row: plain_list_row };
+
+/// The words of an answer, by number.
+pub const WORDS: [&str; 4] = ["entailed", "not-entailed", "contradictory", "refused"];
+
+fn plain_decide(bytes: &[u8], nums: &mut [i32], dens: &mut [i32]) -> Told {
+    told(plain::decide(bytes, nums, dens))
+}
+
+/// An answer in numbers.
+fn told(answer: Answer) -> Told {
+    let (word, number, figure) = match answer {
+        Answer::Entailed { solved } => (0, 0, solved),
+        Answer::NotEntailed { solved } => (1, 0, solved),
+        Answer::Contradictory { place } => (2, 0, place),
+        Answer::Refused { number, place } => (3, number, place),
+    };
+    Told { word, number, figure: figure as usize }
+}
+
+fn plain_list_row(buf: &mut [u8], at: usize, nums: &[i32], dens: &[i32], t: usize) -> Listed {
+    match plain::list_row(nums, dens, t, buf, at) {
+        Ok(place) => Listed { number: 0, place },
+        Err((number, place)) => Listed { number, place },
+    }
+}

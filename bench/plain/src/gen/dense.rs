@@ -87,17 +87,28 @@ fn grow(record: &mut Record, random: &mut Random, growth: Growth) {
 /// A dense problem whose fractions mostly stay within the limits: what is
 /// solved are small multiples of long sums.
 pub fn dense_kept_small(seed: u64, index: u64) -> Vec<u8> {
+    dense_of_size(MOST, seed, index)
+}
+
+/// The same with any number of terms, from 8 on, and as many assumptions.
+pub fn dense_of_size(most: usize, seed: u64, index: u64) -> Vec<u8> {
     let mut random = Random::new("dense_kept_small", seed, index);
     let mut record = Record::new();
-    let free: Vec<u8> = (0..random.within(14, 18)).map(|_| record.variable(0)).collect();
-    let bound: Vec<u8> = (0..random.within(10, 14)).map(|_| record.variable(0)).collect();
+    let mut some = |low, high| random.within(part(low, most), part(high, most));
+    let free: Vec<u8> = (0..some(14, 18)).map(|_| record.variable(0)).collect();
+    let bound: Vec<u8> = (0..some(10, 14)).map(|_| record.variable(0)).collect();
     let sums = running_sums(&mut record, &mut random, &free);
-    let mut pairs = bind(&mut record, &mut random, &bound, &sums);
-    pairs.extend(chain(&mut record, &mut random, &free, &sums));
-    sum_up(&mut record, &mut random, &bound, &sums);
-    assume_and_repeat(&mut record, &mut random, &pairs);
-    record.goal(random.term(MOST), random.term(MOST));
+    let mut pairs = bind(&mut record, &mut random, &bound, &sums, most);
+    pairs.extend(chain(&mut record, &mut random, &free, &sums, most));
+    sum_up(&mut record, &mut random, &bound, &sums, most);
+    assume_and_repeat(&mut record, &mut random, &pairs, most);
+    record.goal(random.term(most), random.term(most));
     record.bytes()
+}
+
+/// As much of `number` as there are terms of 64, at least 1.
+fn part(number: i64, most: usize) -> i64 {
+    (number * most as i64 / MOST as i64).max(1)
 }
 
 fn signed_sum(record: &mut Record, random: &mut Random, one: u8, other: u8) -> u8 {
@@ -119,8 +130,8 @@ fn running_sums(record: &mut Record, random: &mut Random, terms: &[u8]) -> Vec<u
 }
 
 /// A term, or a small multiple of it.
-fn small_multiple(record: &mut Record, random: &mut Random, term: u8) -> u8 {
-    if random.chance(60) || record.term_count() >= MOST - 10 {
+fn small_multiple(record: &mut Record, random: &mut Random, term: u8, most: usize) -> u8 {
+    if random.chance(60) || record.term_count() >= most - part(10, most) as usize {
         return term;
     }
     let (mantissa, shift) = random.pick(&[(2, 0), (3, 0), (-3, 0), (1, 1), (3, 1)]);
@@ -128,34 +139,47 @@ fn small_multiple(record: &mut Record, random: &mut Random, term: u8) -> u8 {
 }
 
 /// Pairs that make a small multiple of each bound term a long sum.
-fn bind(record: &mut Record, random: &mut Random, bound: &[u8], sums: &[u8]) -> Vec<[u8; 2]> {
-    let long = &sums[sums.len() - 4..];
-    let pairs = bound.iter().map(|&term| [small_multiple(record, random, term), random.pick(long)]);
-    pairs.collect()
+fn bind(
+    record: &mut Record,
+    random: &mut Random,
+    bound: &[u8],
+    sums: &[u8],
+    most: usize,
+) -> Vec<[u8; 2]> {
+    let long = &sums[sums.len().saturating_sub(4)..];
+    let mut pair = |&term| [small_multiple(record, random, term, most), random.pick(long)];
+    bound.iter().map(&mut pair).collect()
 }
 
 /// Pairs that make small multiples of the last terms, going down, the sums
 /// of those before them.
-fn chain(record: &mut Record, random: &mut Random, free: &[u8], sums: &[u8]) -> Vec<[u8; 2]> {
-    let last = (free.len() - random.within(6, 10) as usize..free.len()).rev();
-    last.map(|place| [small_multiple(record, random, free[place]), sums[place - 1]]).collect()
+fn chain(
+    record: &mut Record,
+    random: &mut Random,
+    free: &[u8],
+    sums: &[u8],
+    most: usize,
+) -> Vec<[u8; 2]> {
+    let count = random.within(part(6, most), part(10, most)) as usize;
+    let last = (free.len().saturating_sub(count).max(1)..free.len()).rev();
+    last.map(|place| [small_multiple(record, random, free[place], most), sums[place - 1]]).collect()
 }
 
 /// Fills up with sums of bound terms.
-fn sum_up(record: &mut Record, random: &mut Random, bound: &[u8], sums: &[u8]) {
+fn sum_up(record: &mut Record, random: &mut Random, bound: &[u8], sums: &[u8], most: usize) {
     let mut last = random.pick(sums);
-    while record.term_count() < MOST {
+    while record.term_count() < most {
         let next = random.pick(bound);
         last = signed_sum(record, random, last, next);
     }
 }
 
 /// Assumes the pairs, and then some of them again.
-fn assume_and_repeat(record: &mut Record, random: &mut Random, pairs: &[[u8; 2]]) {
+fn assume_and_repeat(record: &mut Record, random: &mut Random, pairs: &[[u8; 2]], most: usize) {
     for &[left, right] in pairs {
         record.assume(left, right);
     }
-    while record.pair_count() < MOST {
+    while record.pair_count() < most {
         let [left, right] = random.pick(pairs);
         record.assume(left, right);
     }

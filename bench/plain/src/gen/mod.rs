@@ -12,7 +12,7 @@ mod random;
 
 pub use bytes::{case_bit, case_bits, case_prefix, case_prefixes, faulty, random_bytes};
 pub use congruent::congruent;
-pub use dense::{dense, dense_kept_small};
+pub use dense::{dense, dense_kept_small, dense_of_size};
 pub use limits::{
     limit_build, limit_difference, limit_first_close, limit_order, limit_product, limit_quotient,
     limit_sum,

@@ -1,0 +1,49 @@
+//! Times of SMT solvers on the same problems.
+
+use crate::timing::decide_once;
+use differential::sides::OURS;
+use differential::solver::Solver;
+use plain::smt;
+use std::io;
+use std::time::{Duration, Instant};
+
+/// How many problems of a family are put before a solver; a family with fewer
+/// is repeated.
+pub const PROBLEMS: usize = 20;
+
+/// The times per problem of a solver.
+pub struct Times {
+    /// With a process for each problem.
+    pub each: Duration,
+    /// With one process for all of them, each in a scope of its own.
+    pub together: Duration,
+    /// On how many of them the solver's word is the library's.
+    pub agreed: usize,
+}
+
+/// The times of a solver on the first problems of a family.
+pub fn times(solver: &Solver, problems: &[Vec<u8>]) -> io::Result<Times> {
+    let problems = problems.iter().cycle().take(PROBLEMS);
+    let words = problems.clone().map(|problem| Some(decide_once(OURS, problem).word));
+    let scripts: Vec<String> = problems.map(|problem| smt::script(problem)).collect();
+    let start = Instant::now();
+    let said: Vec<Option<u8>> =
+        scripts.iter().map(|script| solver.word(script)).collect::<io::Result<_>>()?;
+    let each = start.elapsed() / PROBLEMS as u32;
+    let agreed = said.into_iter().zip(words).filter(|(said, word)| said == word).count();
+    let script = together(&scripts);
+    let start = Instant::now();
+    solver.output(&script)?;
+    Ok(Times { each, together: start.elapsed() / PROBLEMS as u32, agreed })
+}
+
+/// One script for several problems, each in a scope of its own.
+fn together(scripts: &[String]) -> String {
+    const LOGIC: &str = "(set-logic QF_UFLRA)\n";
+    let mut all = String::from(LOGIC);
+    for script in scripts {
+        let rest = script.strip_prefix(LOGIC).unwrap_or(script);
+        all.push_str(&format!("(push 1)\n{rest}(pop 1)\n"));
+    }
+    all
+}

@@ -13,7 +13,7 @@ use plain::{PLACES, ROWS};
 pub struct Fault {
     /// The input's family and index.
     pub name: String,
-    /// The input.
+    /// The input: a byte string, or both lists as they are in memory.
     pub bytes: Vec<u8>,
     /// What differs.
     pub what: String,
@@ -98,13 +98,16 @@ impl<'n> Checker<'n> {
     pub fn arbitrary_lists(&mut self, index: u64) -> Result<(), Fault> {
         let mut random = Random::new("lists", self.seed, index);
         fill_with_fractions(&mut self.bench.first, &mut random);
-        let fault = |what| Fault { name: format!("lists-{index}"), bytes: Vec::new(), what };
         for row in 0..ROWS {
             if random.chance(20) {
                 spoil(&mut self.bench.first, row, &mut random);
             }
-            self.row(Request::of_row(row, &mut random), &mut random).map_err(fault)?;
-            self.row(Request::of_none(&mut random), &mut random).map_err(fault)?;
+            for request in [Request::of_row(row, &mut random), Request::of_none(&mut random)] {
+                if let Err(what) = self.row(request, &mut random) {
+                    let bytes = self.bench.first.bytes();
+                    return Err(Fault { name: format!("lists-{index}"), bytes, what });
+                }
+            }
         }
         Ok(())
     }

@@ -79,6 +79,12 @@ impl Lists {
         self.dens.copy_from_slice(&from.dens);
     }
 
+    /// Numerators and then denominators, each number as four bytes in the
+    /// machine's order.
+    pub fn bytes(&self) -> Vec<u8> {
+        self.nums.iter().chain(&self.dens).flat_map(|number| number.to_ne_bytes()).collect()
+    }
+
     /// The parts that are handed over, to be written.
     pub fn lent_mut(&mut self, lengths: Lengths) -> (&mut [i32], &mut [i32]) {
         (&mut self.nums[..lengths.nums], &mut self.dens[..lengths.dens])

@@ -1,6 +1,7 @@
 //! The inputs are what they are said to be.
 
 use differential::inputs::{families, files, Family};
+use differential::tally::{Tally, REQUIRED};
 use std::collections::BTreeSet;
 
 fn family(name: &str) -> Family {
@@ -42,4 +43,10 @@ fn every_length_from_0_to_700_is_there() {
 #[test]
 fn there_are_200_000_inputs() {
     assert!(families(1).iter().map(|family| family.count).sum::<u64>() >= 200_000);
+}
+
+/// What no input reached is said to be missing.
+#[test]
+fn an_empty_tally_misses_every_class() {
+    assert_eq!(Tally::default().missing(), REQUIRED);
 }

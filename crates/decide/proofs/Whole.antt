@@ -21,7 +21,8 @@ use Rattle.run.specs.Run.{byNumber, begin, assume, run, judged}
 use Rattle.problem.specs.Bits.{field}
 use Rattle.reader.specs.declared.Header.{Header}
 use Rattle.reader.specs.Reads.{headerOf, readAs, readOf}
-use Rattle.reader.proofs.Holding.{holding, terms-count, pairs-count, goal-there, read-held}
+use Rattle.problem.proofs.Holding.{holding, terms-count, pairs-count, goal-there}
+use Rattle.reader.proofs.Holding.{read-held}
 use Rattle.reader.specs.declared.Read.the-variants as read
 use Rattle.table.specs.Held.{tableAt}
 use Rattle.table.specs.Loop.{Kept}

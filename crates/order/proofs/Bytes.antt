@@ -2,23 +2,21 @@
 -- Main result: `same-bytes-same`. Assumes nothing.
 use mathlib.Core.Path.{_≡_, refl, sym, ap, ap₂, _∙_, subst}
 use mathlib.Core.Logic.{_⊎_, inl, inr}
-use mathlib.Core.Bool.{Bool, true, false, cond, _&&_}
 use mathlib.Core.List.{List, [], _∷_, List·Memᴰ, List·Memᴰ·head, List·Memᴰ·tail, Memᴰ·cast}
 use Prim.Native.Nat.{ℕ, zero, suc, _+_, _-_, _*_, _/_, _%_, _^_, _≤_, _<_}
-use native.Mathlib.Nat.{add-zero, zero-add}
+use native.Mathlib.Nat.{add-zero}
 use native.Mathlib.Omega.{arith}
-use lib.Dec.{ltb}
 use lib.ListN.{length, getD}
 use lib.Seq.{ext-getD}
-use Rattle.answer.specs.Refusals.{Refusal, PAIR}
-use Rattle.fraction.specs.Made.{Made, made}
-use Rattle.fraction.proofs.Making.{stopped-not-made, tab-length, tab-member}
+use Rattle.fraction.specs.Made.{made}
 use Rattle.problem.specs.declared.Kind.the-variants.{Variable}
 use Rattle.problem.specs.declared.Term.{Term}
 use Rattle.problem.specs.Bits.{bitAt, field}
-use Rattle.problem.specs.Problem.{Pair, Problem, refuse, termAt, pairAt, decoded}
+use Rattle.problem.specs.Problem.{Pair, Problem, termAt, decoded}
+use Rattle.problem.specs.Pairs.{pairThere}
 use Rattle.problem.specs.Record.{fieldsAt}
-use Rattle.valuation.proofs.Decoded.{Parts, decoded-parts, place-of}
+use Rattle.problem.proofs.Holding.{SidesOf, sides-made, terms-count, term-there, pairs-count, pair-there, goal-there}
+use Rattle.valuation.proofs.Decoded.{place-of}
 use Rattle.verdict.specs.Order.{swapped, Covers, SameUpToOrder}
 use Rattle.order.specs.SameBytes.{byteAt, termCount, pairCount, leftByte, rightByte, SamePair, PairsIn, SameBytes}
 
@@ -45,15 +43,6 @@ byte-equal bytes bytes′ i i′ same = field-equal bytes bytes′ 8 (8 * i) (8 
     let here′ : (8 * i′ + j) / 8 ≡ i′ = omega arith in
     bit-equal bytes bytes′ (8 * i + j) (8 * i′ + j) (rw (here, here′) same) (omega arith))
 
--- A pair that is not refused has the sides that are read.
-pair-read : (bytes : List ℕ) (n place p : ℕ) (pair : Pair) → pairAt bytes n place p ≡ made pair → (pair .left ≡ field bytes p 8) × (pair .right ≡ field bytes (p + 8) 8)
-unfolding pairAt refuse
-pair-read bytes n place p pair h = by (ltb (field bytes p 8) n && ltb (field bytes (p + 8) 8) n) h
-  where
-    by : (b : Bool) → _≡_ {A = Made Refusal Pair} (cond b (made (record { left = field bytes p 8; right = field bytes (p + 8) 8 })) (refuse PAIR place)) (made pair) → (pair .left ≡ field bytes p 8) × (pair .right ≡ field bytes (p + 8) 8)
-    by true h = let same : pair ≡ record { left = field bytes p 8; right = field bytes (p + 8) 8 } = cc in (ap (λ x. x .left) same, ap (λ x. x .right) same)
-    by false h = absurd (stopped-not-made h)
-
 pair-path : {a b : Pair} → a .left ≡ b .left → a .right ≡ b .right → a ≡ b
 pair-path left right i = record { left = left i; right = right i }
 
@@ -68,31 +57,23 @@ record Sides (bytes : List ℕ) (k : ℕ) (pair : Pair) : Type 0 where
   left : pair .left ≡ field bytes (8 * (4 + 8 * termCount bytes + 2 * k)) 8
   right : pair .right ≡ field bytes (8 * (4 + 8 * termCount bytes + 2 * k + 1)) 8
 
-module _ (bytes : List ℕ) (problem : Problem) (parts : Parts bytes problem) where
-  pairThere : ℕ → Made Refusal Pair
-  pairThere k = pairAt bytes (field bytes 0 8) k (32 + 64 * field bytes 0 8 + 16 * (k - 1))
-
-  pairs-counted : length (problem .pairs) ≡ pairCount bytes
-  unfolding pairThere pairCount
-  pairs-counted = tab-length pairThere (field bytes 8 8) 1 (problem .pairs) (parts .pairs)
-
-  pair-sides : (k : ℕ) → k < pairCount bytes → Sides bytes k (getD (problem .pairs) k (problem .goal))
-  unfolding pairThere pairCount termCount
-  pair-sides k below =
-      let read = pair-read bytes (field bytes 0 8) (1 + k) _ _ (tab-member pairThere (field bytes 8 8) 1 (problem .pairs) (parts .pairs) (problem .goal) k below) in
-      let left : 32 + 64 * field bytes 0 8 + 16 * (1 + k - 1) ≡ 8 * (4 + 8 * field bytes 0 8 + 2 * k) = omega arith in
-      let right : 32 + 64 * field bytes 0 8 + 16 * (1 + k - 1) + 8 ≡ 8 * (4 + 8 * field bytes 0 8 + 2 * k + 1) = omega arith in
-      record { left = read .0 ∙ ap (λ x. field bytes x 8) left; right = read .1 ∙ ap (λ x. field bytes x 8) right }
+pair-sides : (bytes : List ℕ) (problem : Problem) → decoded bytes ≡ made problem → (k : ℕ) → k < pairCount bytes → Sides bytes k (getD (problem .pairs) k (problem .goal))
+unfolding pairThere pairCount termCount
+pair-sides bytes problem read k below =
+    let sides = sides-made bytes (field bytes 0 8) (1 + k) _ _ (pair-there bytes problem read k below (problem .goal)) in
+    let left : 32 + 64 * field bytes 0 8 + 16 * (1 + k - 1) ≡ 8 * (4 + 8 * field bytes 0 8 + 2 * k) = omega arith in
+    let right : 32 + 64 * field bytes 0 8 + 16 * (1 + k - 1) + 8 ≡ 8 * (4 + 8 * field bytes 0 8 + 2 * k + 1) = omega arith in
+    record { left = sides .left ∙ ap (λ x. field bytes x 8) left; right = sides .right ∙ ap (λ x. field bytes x 8) right }
 
 -- Pairs that stand in another string are pairs of its problem.
-pairs-covered : (bytes bytes′ : List ℕ) (p q : Problem) → Parts bytes p → Parts bytes′ q → PairsIn bytes bytes′ → Covers (p .pairs) (q .pairs)
-unfolding PairsIn SamePair leftByte rightByte Covers swapped
-pairs-covered bytes bytes′ p q parts parts′ inside pair member =
+pairs-covered : (bytes bytes′ : List ℕ) (p q : Problem) → decoded bytes ≡ made p → decoded bytes′ ≡ made q → PairsIn bytes bytes′ → Covers (p .pairs) (q .pairs)
+unfolding PairsIn SamePair leftByte rightByte pairCount Covers swapped
+pairs-covered bytes bytes′ p q read read′ inside pair member =
     let (k, below, same) = place-of (p .goal) member in
-    let counted = pairs-counted bytes p parts in
-    let counted′ = pairs-counted bytes′ q parts′ in
+    let counted = pairs-count bytes p read in
+    let counted′ = pairs-count bytes′ q read′ in
     let (l, below′, equal) = inside k (omega arith) in
-    by k l (subst (Sides bytes k) same (pair-sides bytes p parts k (omega arith))) (pair-sides bytes′ q parts′ l below′) (member-at (q .goal) (q .pairs) l (omega arith)) equal
+    by k l (subst (Sides bytes k) same (pair-sides bytes p read k (omega arith))) (pair-sides bytes′ q read′ l below′) (member-at (q .goal) (q .pairs) l (omega arith)) equal
   where
     by : (k l : ℕ) {other : Pair} → Sides bytes k pair → Sides bytes′ l other → List·Memᴰ other (q .pairs) → SamePair bytes bytes′ k l → List·Memᴰ pair (q .pairs) ⊎ List·Memᴰ (swapped pair) (q .pairs)
     by k l sides sides′ stands (inl (left, right)) =
@@ -131,34 +112,28 @@ module _ (bytes bytes′ : List ℕ) (same : SameBytes bytes bytes′) where
   unfolding termCount
   same-bytes-same p q read read′ = record {
     terms = ext-getD absent (p .terms) (q .terms) (sized ∙ counts-equal ∙ sym sized′) (λ t below. member t (omega (arith, sized)));
-    goal = pair-path (goal .0 ∙ before-equal 16 8 (omega arith) (omega arith) ∙ sym (goal′ .0)) (goal .1 ∙ before-equal 24 8 (omega arith) (omega arith) ∙ sym (goal′ .1));
-    there = pairs-covered bytes bytes′ p q parts parts′ (same .there);
-    back = pairs-covered bytes′ bytes q p parts′ parts (same .back);
+    goal = pair-path (goal .left ∙ before-equal 16 8 (omega arith) (omega arith) ∙ sym (goal′ .left)) (goal .right ∙ before-equal 24 8 (omega arith) (omega arith) ∙ sym (goal′ .right));
+    there = pairs-covered bytes bytes′ p q read read′ (same .there);
+    back = pairs-covered bytes′ bytes q p read′ read (same .back);
   }
     where
-      parts : Parts bytes p
-      parts = decoded-parts bytes p read
-
-      parts′ : Parts bytes′ q
-      parts′ = decoded-parts bytes′ q read′
-
       absent : Term
       absent = record { kind = Variable 0 }
 
       sized : length (p .terms) ≡ termCount bytes
-      sized = tab-length (termAt bytes) (field bytes 0 8) 0 (p .terms) (parts .terms)
+      sized = terms-count bytes p read
 
       sized′ : length (q .terms) ≡ termCount bytes′
-      sized′ = tab-length (termAt bytes′) (field bytes′ 0 8) 0 (q .terms) (parts′ .terms)
+      sized′ = terms-count bytes′ q read′
 
-      goal : (p .goal .left ≡ field bytes 16 8) × (p .goal .right ≡ field bytes 24 8)
-      goal = pair-read bytes (field bytes 0 8) 0 16 (p .goal) (parts .goal)
+      goal : SidesOf bytes (field bytes 0 8) 16 (p .goal)
+      goal = goal-there bytes p read
 
-      goal′ : (q .goal .left ≡ field bytes′ 16 8) × (q .goal .right ≡ field bytes′ 24 8)
-      goal′ = pair-read bytes′ (field bytes′ 0 8) 0 16 (q .goal) (parts′ .goal)
+      goal′ : SidesOf bytes′ (field bytes′ 0 8) 16 (q .goal)
+      goal′ = goal-there bytes′ q read′
 
       member : (t : ℕ) → t < termCount bytes → getD (p .terms) t absent ≡ getD (q .terms) t absent
       member t below =
-          let first = rw zero-add at (tab-member (termAt bytes) (field bytes 0 8) 0 (p .terms) (parts .terms) absent t below) in
-          let second = rw zero-add at (tab-member (termAt bytes′) (field bytes′ 0 8) 0 (q .terms) (parts′ .terms) absent t (omega (arith, counts-equal))) in
+          let first = term-there bytes p read t below absent in
+          let second = term-there bytes′ q read′ t (omega (arith, counts-equal)) absent in
           cc (term-equal t below)

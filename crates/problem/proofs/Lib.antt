@@ -1,1 +1,3 @@
+pub mod Holding
+pub mod Recorded
 pub mod Shown

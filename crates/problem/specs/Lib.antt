@@ -1,4 +1,5 @@
 pub mod Bits
 pub mod Lookup
+pub mod Pairs
 pub mod Problem
 pub mod Record

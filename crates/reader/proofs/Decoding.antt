@@ -1,29 +1,29 @@
 -- What a byte string is decoded to, test by test.
 -- Main results: `read-short`, `read-count`, `read-length`, `read-term`, `read-goal`, `read-pair`, `read-sound`. Assume nothing.
-use mathlib.Core.Path.{_≡_, refl, sym, ap, _∙_}
-use mathlib.Core.Bool.{Bool, true, false, _&&_, cond}
+use mathlib.Core.Path.{_≡_, refl, sym}
+use mathlib.Core.Bool.{true, false, _&&_}
 use mathlib.Core.List.{List}
 use mathlib.Core.Option.{Option, some, none}
 use Prim.Native.Nat.{ℕ, _+_, _-_, _*_, _≤_, _<_}
+use native.Mathlib.Nat.{zero-add}
 use native.Mathlib.Omega.{arith}
 use borrow.Author.Tests.{lt-leb, le-leb, eq-eqb, ne-eqb}
 use lib.Dec.{leb}
 use lib.ListN.{length}
 use Rattle.answer.specs.Refusals.{Refusal, SHORT, COUNT, LENGTH, TERM, PAIR}
-use Rattle.fraction.specs.Made.{Made, made, stopped, _>>=_, tab}
+use Rattle.fraction.specs.Made.{Made, made, _>>=_, tab}
+use Rattle.fraction.proofs.Making.{tab-length, tab-made, tab-stopped}
 use Rattle.problem.specs.declared.Kind.{Kind}
 use Rattle.problem.specs.declared.Term.{Term}
 use Rattle.problem.specs.Bits.{field}
 use Rattle.problem.specs.Record.{fieldsAt, kindOf}
 use Rattle.problem.specs.Problem.{Pair, Problem, refuse, termAt, pairAt, need, decoded}
 use Rattle.reader.specs.declared.Header.{Header}
-use Rattle.reader.specs.declared.Read.{Read}
 use Rattle.reader.specs.declared.Read.the-variants.{Sound, Refused}
 use Rattle.record.specs.declared.TermRead.{TermRead}
 use Rattle.record.specs.declared.TermRead.the-variants as term
 use Rattle.record.specs.Terms.{judged, termRead}
 use Rattle.reader.specs.Reads.{headerOf, readAs, readOf, HeaderRead, Framed, isSound, soundTerm, sidesBelow, soundPair, First}
-use Rattle.reader.proofs.Tab.{IsMade, tab-stops, tab-makes, tab-length}
 
 -- what follows tests 2 to 4
 unfoldable body : List ℕ → (n m : ℕ) → Made Refusal Problem
@@ -71,12 +71,12 @@ term-as bytes t = go (kindOf t (fieldsAt bytes (32 + 64 * t)))
     go (some kind) = refl
 
 -- A sound record is made a term; a faulty one stops with its number.
-term-made : (bytes : List ℕ) (t : ℕ) → soundTerm bytes t ≡ true → IsMade (termAt bytes t)
+term-made : (bytes : List ℕ) (t : ℕ) → soundTerm bytes t ≡ true → (found : Term) × (termAt bytes t ≡ made found)
 unfolding soundTerm isSound termAs
 term-made bytes t e = rw term-as (go (termRead bytes t) e)
   where
-    go : (r : TermRead) → isSound r ≡ true → IsMade (termAs t r)
-    go (term.Sound found) e = record { what = found; same = refl }
+    go : (r : TermRead) → isSound r ≡ true → (found : Term) × (termAs t r ≡ made found)
+    go (term.Sound found) e = (found, refl)
     go term.Faulty e = let z : _≡_ {A = ℕ} 0 1 = cc in absurd (omega arith)
 
 term-stopped : (bytes : List ℕ) (t : ℕ) → soundTerm bytes t ≡ false → termAt bytes t ≡ refuse TERM t
@@ -106,17 +106,17 @@ module _ (bytes : List ℕ) (h : Header) (framed : Framed bytes h) where
   unfolding readOf readAs body _>>=_ refuse TERM
   read-term t first below =
       let stops : tab (h .n) 0 (termAt bytes) ≡ refuse TERM t =
-      tab-stops (termAt bytes) (h .n) 0 t _ (omega arith) (omega arith) (λ k l u. term-made bytes k (first .passed .before k l u)) (term-stopped bytes t (first .there below)) in
+      tab-stopped (termAt bytes) (h .n) 0 t _ below (λ k before. term-made bytes (0 + k) (first .passed .before (0 + k) (omega arith) (omega arith))) (rw zero-add (term-stopped bytes t (first .there below))) in
       rw (decoded-body, stops)
 
   module _ (t : ℕ) (terms-first : First 0 (h .n) (soundTerm bytes) t) (all-terms : h .n ≤ t) where
-    terms : IsMade (tab (h .n) 0 (termAt bytes))
-    terms = tab-makes (termAt bytes) (h .n) 0 (λ k l u. term-made bytes k (terms-first .passed .before k l (omega arith)))
+    terms : (list : List Term) × (tab (h .n) 0 (termAt bytes) ≡ made list)
+    terms = tab-made (termAt bytes) (h .n) 0 (λ k below. term-made bytes (0 + k) (terms-first .passed .before (0 + k) (omega arith) (omega arith)))
 
     -- 6 PAIR, the goal
     pub read-goal : sidesBelow bytes (h .n) 16 ≡ false → readOf bytes ≡ Refused 6 0
     unfolding readOf readAs body _>>=_ refuse PAIR
-    read-goal beyond = rw (decoded-body, terms .same, pair-stopped bytes (h .n) 0 16 beyond)
+    read-goal beyond = rw (decoded-body, terms .1, pair-stopped bytes (h .n) 0 16 beyond)
 
     module _ (goal : sidesBelow bytes (h .n) 16 ≡ true) where
       pair : ℕ → Made Refusal Pair
@@ -126,15 +126,16 @@ module _ (bytes : List ℕ) (h : Header) (framed : Framed bytes h) where
       pub read-pair : (k : ℕ) → First 1 (h .m + 1) (soundPair bytes (h .n)) k → k ≤ h .m → readOf bytes ≡ Refused 6 k
       unfolding readOf readAs body _>>=_ refuse PAIR pair soundPair
       read-pair k first within =
+          let index : 1 + (k - 1) ≡ k = omega (arith, first .passed .least) in
           let stops : tab (h .m) 1 pair ≡ refuse PAIR k =
-          tab-stops pair (h .m) 1 k _ (first .passed .least) (omega arith) (λ j l u. record { what = _; same = pair-made bytes (h .n) j _ (first .passed .before j l u) }) (pair-stopped bytes (h .n) k _ (first .there (omega arith))) in
-          rw (decoded-body, terms .same, pair-made bytes (h .n) 0 16 goal, stops)
+          tab-stopped pair (h .m) 1 (k - 1) _ (omega (arith, first .passed .least)) (λ j before. (_, pair-made bytes (h .n) (1 + j) _ (first .passed .before (1 + j) (omega arith) (omega arith)))) (rw index (pair-stopped bytes (h .n) k _ (first .there (omega arith)))) in
+          rw (decoded-body, terms .1, pair-made bytes (h .n) 0 16 goal, stops)
 
       -- a sound problem
       pub read-sound : (k : ℕ) → First 1 (h .m + 1) (soundPair bytes (h .n)) k → h .m < k → readOf bytes ≡ Sound h
       unfolding readOf readAs body _>>=_ pair soundPair headerOf
       read-sound k first beyond =
-          let pairs : IsMade (tab (h .m) 1 pair) =
-          tab-makes pair (h .m) 1 (λ j l u. record { what = _; same = pair-made bytes (h .n) j _ (first .passed .before j l (omega arith)) }) in
-          rw (decoded-body, terms .same, pair-made bytes (h .n) 0 16 goal, pairs .same)
-          (λ i. Sound (record { n = tab-length (termAt bytes) (h .n) 0 _ (terms .same) i; m = tab-length pair (h .m) 1 _ (pairs .same) i; left = sym (framed .header .left) i; right = sym (framed .header .right) i }))
+          let pairs : (list : List Pair) × (tab (h .m) 1 pair ≡ made list) =
+          tab-made pair (h .m) 1 (λ j below. (_, pair-made bytes (h .n) (1 + j) _ (first .passed .before (1 + j) (omega arith) (omega arith)))) in
+          rw (decoded-body, terms .1, pair-made bytes (h .n) 0 16 goal, pairs .1)
+          (λ i. Sound (record { n = tab-length (termAt bytes) (h .n) 0 _ (terms .1) i; m = tab-length pair (h .m) 1 _ (pairs .1) i; left = sym (framed .header .left) i; right = sym (framed .header .right) i }))

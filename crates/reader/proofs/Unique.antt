@@ -11,7 +11,8 @@ use Rattle.problem.specs.declared.Term.{Term}
 use Rattle.problem.specs.Problem.{termAt}
 use Rattle.reader.specs.declared.Read.{Read}
 use Rattle.reader.specs.declared.Sides.{Sides}
-use Rattle.reader.specs.Held.{pairOf, pairThere}
+use Rattle.problem.specs.Pairs.{pairThere}
+use Rattle.reader.specs.Held.{pairOf}
 use Rattle.reader.specs.Reads.{readOf, soundTerm, sidesBelow, soundPair, First}
 
 -- No second answer satisfies the contract of `read_problem`.

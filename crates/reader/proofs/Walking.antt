@@ -1,6 +1,6 @@
 -- A walk up to the first index that is not sound.
 -- Main results: `passed-none`, `passed-more`, `first-found`, `first-none`. Assume nothing.
-use mathlib.Core.Path.{_≡_, sym, ap, _∙_}
+use mathlib.Core.Path.{_≡_, ap, _∙_}
 use mathlib.Core.Bool.{Bool, true, false}
 use Prim.Native.Nat.{ℕ, _+_, _≤_, _<_}
 use native.Mathlib.Omega.{arith}

@@ -2,11 +2,10 @@
 -- Main definitions: `Held`, `TermHeld`, `PairHeld`. Assumes nothing.
 use mathlib.Core.Path.{_≡_}
 use mathlib.Core.List.{List}
-use Prim.Native.Nat.{ℕ, _+_, _-_, _*_, _<_, _≤_}
-use Rattle.answer.specs.Refusals.{Refusal}
-use Rattle.fraction.specs.Made.{Made, made}
+use Prim.Native.Nat.{ℕ, _<_, _≤_}
+use Rattle.fraction.specs.Made.{made}
 use Rattle.problem.specs.Bits.{field}
-use Rattle.problem.specs.Problem.{Pair, Problem, pairAt, decoded}
+use Rattle.problem.specs.Problem.{Pair, Problem, decoded}
 use Rattle.reader.specs.declared.Sides.{Sides}
 
 -- the byte string holds a problem
@@ -28,7 +27,3 @@ pub record PairHeld (bytes : List ℕ) (n k : ℕ) : Type 0 where
 
 unfoldable pub pairOf : Sides → Pair
 pairOf s = record { left = s .left; right = s .right }
-
--- pair k, as the rule makes it
-unfoldable pub pairThere : List ℕ → (n k : ℕ) → Made Refusal Pair
-pairThere bytes n k = pairAt bytes n k (32 + 64 * n + 16 * (k - 1))

@@ -10,9 +10,10 @@ ghost use mathlib.Core.Path.{_≡_};
 ghost use Prim.Native.Nat.{_≤_};
 ghost use lib.ListN.{length};
 ghost use Rattle.fraction.specs.Made.{made};
+ghost use Rattle.problem.specs.Pairs.{pairThere};
 ghost use Rattle.problem.specs.Problem.{termAt};
 ghost use Rattle.reader.specs.Reads.{HeaderRead, Framed, readOf};
-ghost use Rattle.reader.specs.Held.{TermHeld, PairHeld, pairOf, pairThere};
+ghost use Rattle.reader.specs.Held.{TermHeld, PairHeld, pairOf};
 
 const SHORT: u8 = 2;
 

@@ -2,7 +2,7 @@
 use borrow.Author.Needs.{needs}
 use native.Mathlib.Omega.{arith}
 use Prim.Native.Nat.{_+_, _-_, _≤_}
-use Rattle.reader.proofs.Holding.{holding}
+use Rattle.problem.proofs.Holding.{holding}
 use Rattle.assume.proofs.All.{Assuming, Turned, assuming-starts, sides-below, assuming-ends, assuming-turned}
 use Rattle.assume.proofs.assume_all.Statement.{statement}
 use Rattle.assume.proofs.assume_all.Tie as tie

@@ -5,7 +5,7 @@ use native.Mathlib.Omega.{arith}
 use borrow.Author.Needs.{needs}
 use Rattle.fraction.specs.Made.{made, because}
 use Rattle.problem.specs.Problem.{Problem, decoded}
-use Rattle.reader.proofs.Holding.{holding}
+use Rattle.problem.proofs.Holding.{holding}
 use Rattle.run.specs.Run.{byNumber, ends}
 use Rattle.table.specs.Held.{tableAt}
 use Rattle.table.proofs.Columns.{kept-then}

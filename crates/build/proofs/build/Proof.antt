@@ -1,7 +1,7 @@
 use Rattle.build.proofs.Decoded.{term-buildable, kind-there}
 use Rattle.build.proofs.Noted.{calls-noted, notes-more}
 use Rattle.build.proofs.Rows.{Rising, rising-starts, rising-goes-on, rising-stops, rising-ends}
-use Rattle.reader.proofs.Holding.{holding, terms-count}
+use Rattle.problem.proofs.Holding.{holding, terms-count}
 use Rattle.fraction.specs.Made.{made}
 use Rattle.problem.specs.Bits.{field}
 use Rattle.problem.specs.Problem.{Problem, decoded}

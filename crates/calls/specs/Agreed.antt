@@ -59,6 +59,7 @@ pub record SameExits (r s : Answer) (nums dens nums′ dens′ : List ℤ) : Typ
   pub denominators : (p : ℕ) → p < PLACES → getD dens p (pos 0) ≡ getD dens′ p (pos 0)
   pub answers : ((place : ℕ) → r ≡ Contradictory place → ⊥) → r ≡ s
 
+-- an answer that is no refusal
 unfoldable pub Accepts : Answer → Type 0
 Accepts r = (number place : ℕ) → r ≡ Refused number place → ⊥
 

@@ -15,6 +15,7 @@ use Rattle.fraction.specs.Made.{made}
 use Rattle.fraction.proofs.Bounded.{plus-made, minus-made, times-made}
 use Rattle.fraction.proofs.Field.{times-one, times-zero}
 use Rattle.fraction.proofs.Making.{bind-made}
+use Rattle.linear.proofs.Alone.{alone-elsewhere}
 use Rattle.problem.specs.declared.Kind.{Kind}
 use Rattle.problem.specs.declared.Kind.the-variants.{Variable, Constant, Gain, Sum, Difference, Lookup1, Lookup2, Lookup3}
 use Rattle.problem.specs.declared.Term.{Term}
@@ -30,7 +31,7 @@ use Rattle.invariant.proofs.Lin.{lin-congruent, lin-unknown, lin-own, l
 use Rattle.invariant.proofs.Pivot.{last-or-before}
 use Rattle.invariant.proofs.Solved.{unsolved-not-counted, known-not-counted}
 use Rattle.invariant.proofs.Steps.{row-made, cell-past}
-use Rattle.invariant.proofs.Units.{alone-off, alone-value, constant-value, column-below, constant-apart}
+use Rattle.invariant.proofs.Units.{alone-value, constant-value, column-below, constant-apart}
 
 -- A constant's column is the constant times the unit's.
 constant-column : (q : ℚ) (c : ℕ) → alone constant q c ≡ q *ℚ alone constant oneℚ c
@@ -112,14 +113,14 @@ module _ (terms : List Term) (shaped : Shaped terms) where
       where
         own : t < length terms → (a : ℕ → ℚ) (unit : ℚ) → Dec (t ≡ c) → lin (kindAt terms t) a unit (alone t oneℚ c) ≡ lin (kindAt terms t) a unit zeroℚ
         own below a unit (yes same) = lin-own (kindAt terms t) a unit _ _ (rw same (absent (rw same at below)))
-        own below a unit (no other) = ap (lin (kindAt terms t) a unit) (alone-off (λ same. other (sym same)) oneℚ)
+        own below a unit (no other) = ap (lin (kindAt terms t) a unit) (alone-elsewhere (λ same. other (sym same)) oneℚ)
 
         by : Dec (t < length terms) → ((i : ℕ) → i < bound → cell table i c ≡ zeroℚ) → cell table t c ≡ zeroℚ
         by (no past) before = cell-past table t c (omega arith)
         by (yes below) before =
             rows .all t c (omega arith) (column-below (omega arith))
             ∙ own below _ _ (ℕ-discrete t c)
-            ∙ ap (λ unit. lin (kindAt terms t) (λ i. cell table i c) unit zeroℚ) (alone-off (constant-apart inside) oneℚ)
+            ∙ ap (λ unit. lin (kindAt terms t) (λ i. cell table i c) unit zeroℚ) (alone-elsewhere (constant-apart inside) oneℚ)
             ∙ lin-congruent (kindAt terms t) _ _ _ _ (λ i input. before i (omega (arith, shaped .earlier t below i input)))
             ∙ sym (lin-commutes zero-linear (kindAt terms t) (λ i c. zeroℚ) (λ c. zeroℚ) (λ c. zeroℚ))
 

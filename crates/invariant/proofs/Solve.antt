@@ -13,6 +13,7 @@ use Rattle.whole.proofs.Commutative.{combined}
 use Rattle.fraction.specs.Exact.{ℚ, zeroℚ, oneℚ, _+ℚ_, _-ℚ_, _*ℚ_}
 use Rattle.fraction.proofs.Equality.{ℚ-discrete}
 use Rattle.fraction.proofs.Field.{ℚ-ring, readsℚ, difference-zero}
+use Rattle.linear.proofs.Alone.{alone-elsewhere}
 use Rattle.linear.specs.Form.{Form, eval, foldForm}
 use Rattle.linear.proofs.Eval.{eval-equal, eval-minus}
 use Rattle.linear.proofs.Fold.{fold-there, fold-elsewhere, fold-equal, fold-minus, fold-without, fold-sound}
@@ -31,7 +32,7 @@ use Rattle.invariant.proofs.Pivot.{Pivot, pivot-highest}
 use Rattle.invariant.proofs.Solved.{unsolved-not-counted, lower-counted, known-not-counted}
 use Rattle.invariant.proofs.SolvedForm.{solved-there, solved-nonzero, solved-cancels, solved-value}
 use Rattle.invariant.proofs.Steps.{Solves}
-use Rattle.invariant.proofs.Units.{alone-off, column-below, constant-apart}
+use Rattle.invariant.proofs.Units.{column-below, constant-apart}
 
 -- The row d is the difference of rows t and u.
 pub record Differs (table : Table) (t u : ℕ) (d : Row) : Type 0 where
@@ -106,7 +107,7 @@ module _ (rank : ℕ → ℕ) (terms : List Term) (inForce met : List Pair) (sta
     unknown = unsolved .unknown;
     itself = λ k inside.
         solves .folds c k inside
-        ∙ fold-without p form (cell (state .table) c) k (unsolved .itself p p-column ∙ alone-off (λ same. other (sym same)) oneℚ)
+        ∙ fold-without p form (cell (state .table) c) k (unsolved .itself p p-column ∙ alone-elsewhere (λ same. other (sym same)) oneℚ)
         ∙ unsolved .itself k inside;
   }
 
@@ -123,7 +124,7 @@ module _ (rank : ℕ → ℕ) (terms : List Term) (inForce met : List Pair) (sta
   now-solved k inside nonzero = by (after-nonzero p k inside nonzero .0) (after-nonzero p k inside nonzero .1)
     where
       by : k ≢ p → (cell (state .table) p k ≢ zeroℚ) ⊎ ((cell (state .table) p p ≢ zeroℚ) × (form k ≢ zeroℚ)) → rank k < rank p
-      by other (inl there) = absurd (there (difference-unsolved p (pivot .below) (pivot .nonzero) .itself k (column-below (omega arith)) ∙ alone-off other oneℚ))
+      by other (inl there) = absurd (there (difference-unsolved p (pivot .below) (pivot .nonzero) .itself k (column-below (omega arith)) ∙ alone-elsewhere other oneℚ))
       by other (inr (there, came)) = form-unsolved k inside came .1
 
   -- I1
@@ -152,7 +153,7 @@ module _ (rank : ℕ → ℕ) (terms : List Term) (inForce met : List Pair) (sta
       ∙ fold-equal p c form form (cell old i) (λ k. lin kind (λ j. cell old j k) (alone constant oneℚ k) (cell old i k)) refl (inv .arithmetic i p below p-column) (inv .arithmetic i c below inside)
       ∙ lin-commutes (fold-linear p form c) kind (cell old) (alone constant oneℚ) (cell old i)
       ∙ lin-congruent kind _ _ _ _ (λ j input. sym (solves .folds j c inside))
-      ∙ ap₂ (lin kind (λ j. cell (after .table) j c)) (fold-without p form (alone constant oneℚ) c (alone-off (constant-apart (pivot .below)) oneℚ)) (sym (solves .folds i c inside))
+      ∙ ap₂ (lin kind (λ j. cell (after .table) j c)) (fold-without p form (alone constant oneℚ) c (alone-elsewhere (constant-apart (pivot .below)) oneℚ)) (sym (solves .folds i c inside))
 
   -- I4
   solve-sound : (v : ℕ → ℚ) → v t ≡ v u → ((i : ℕ) → i < length terms → v i ≡ eval TERMS (cell (state .table) i) v) → t < length terms → u < length terms → (i : ℕ) → i < length terms → v i ≡ eval TERMS (cell (after .table) i) v

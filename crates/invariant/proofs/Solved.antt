@@ -8,15 +8,16 @@ use native.Mathlib.Omega.{arith}
 use Rattle.fraction.specs.Exact.{zeroℚ, oneℚ, eqℚ}
 use Rattle.fraction.proofs.Equality.{eqℚ-yes, eqℚ-no}
 use Rattle.fraction.proofs.Field.{one-not-zero}
+use Rattle.linear.proofs.Alone.{alone-there}
 use Rattle.problem.specs.declared.Term.{Term}
 use Rattle.problem.specs.Lookup.{kindAt}
 use Rattle.run.specs.Row.{TERMS, Table, cell}
 use Rattle.invariant.specs.Invariant.{isUnknown, Unsolved, Lower, isSolved}
-use Rattle.invariant.proofs.Units.{alone-at, column-below}
+use Rattle.invariant.proofs.Units.{column-below}
 
 -- An unsolved unknown stands in its own row, and is not counted.
 pub unsolved-there : (terms : List Term) (table : Table) (c : ℕ) → c < TERMS → Unsolved terms table c → cell table c c ≡ oneℚ
-unsolved-there terms table c inside unsolved = unsolved .itself c (column-below (omega arith)) ∙ alone-at c oneℚ
+unsolved-there terms table c inside unsolved = unsolved .itself c (column-below (omega arith)) ∙ alone-there c oneℚ
 
 pub unsolved-not-counted : (terms : List Term) (table : Table) (c : ℕ) → c < TERMS → Unsolved terms table c → isSolved terms table c ≡ false
 unfolding isSolved

@@ -7,7 +7,7 @@ use Prim.Native.Nat.{ℕ}
 use lib.Dec.{eqb}
 use borrow.Author.Tests.{eq-eqb, ne-eqb}
 use Rattle.fraction.specs.Exact.{ℚ, zeroℚ}
-use Rattle.linear.specs.Fixed.{alone}
+use Rattle.run.specs.Build.{alone}
 
 -- What is chosen by the number of a column, at the column and at another.
 pub at-column : (p : ℕ) (x y : ℚ) → cond (eqb p p) x y ≡ x

@@ -10,7 +10,7 @@ use Rattle.whole.proofs.Solver.{ring}
 use Rattle.fraction.specs.Exact.{ℚ, zeroℚ, oneℚ, _+ℚ_, negℚ, _-ℚ_, _*ℚ_}
 use Rattle.fraction.proofs.Equality.{ℚ-discrete}
 use Rattle.fraction.proofs.Field.{ℚ-ring, readsℚ, plus-zero, times-zero, times-comm}
-use Rattle.linear.specs.Fixed.{alone}
+use Rattle.run.specs.Build.{alone}
 use Rattle.linear.specs.Form.{Form, sum, eval}
 use Rattle.linear.proofs.Alone.{alone-there, alone-elsewhere}
 use Rattle.linear.proofs.Sum.{sum-equal, sum-plus, sum-times, sum-zeros, sum-but-one, sum-single, sum-exchange}

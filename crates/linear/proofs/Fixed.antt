@@ -14,7 +14,8 @@ use Rattle.whole.proofs.Solver.{ring}
 use Rattle.fraction.specs.Exact.{ℚ, whole, zeroℚ, oneℚ, _+ℚ_, negℚ, _-ℚ_, _*ℚ_}
 use Rattle.fraction.proofs.Field.{ℚ-ring, readsℚ, zero-product, difference-zero, whole-injective}
 use Rattle.linear.specs.Apart.{Same, Differ, Keeps}
-use Rattle.linear.specs.Fixed.{alone, fixed}
+use Rattle.run.specs.Build.{alone}
+use Rattle.linear.specs.Fixed.{fixed}
 use Rattle.linear.specs.Form.{Form, eval}
 use Rattle.linear.proofs.Alone.{alone-there, alone-elsewhere}
 use Rattle.linear.proofs.Among.{free-number}

@@ -11,7 +11,6 @@ use Rattle.whole.proofs.Commutative.{zero-add}
 use Rattle.fraction.specs.Exact.{ℚ, zeroℚ, oneℚ, _+ℚ_, _*ℚ_}
 use Rattle.fraction.proofs.Equality.{ℚ-discrete}
 use Rattle.fraction.proofs.Field.{ℚ-ring, plus-zero, times-one, times-zero, times-comm}
-use Rattle.linear.specs.Fixed.{alone as alone-form}
 use Rattle.linear.specs.Form.{Form, sum, eval}
 use Rattle.linear.proofs.Alone.{alone-there, alone-elsewhere}
 use Rattle.linear.proofs.Sum.{sum-equal, sum-zeros, sum-single}
@@ -22,7 +21,7 @@ use Rattle.run.specs.Row.{TERMS, cell}
 use Rattle.run.specs.Build.{alone}
 use Rattle.run.specs.Merge.{State}
 use Rattle.invariant.specs.Invariant.{Shaped, Meets, Unsolved, Completed}
-use Rattle.invariant.proofs.Units.{alone-at, alone-off, column-below}
+use Rattle.invariant.proofs.Units.{column-below}
 use Rattle.truth.specs.Sums.{weighted, weightedRow}
 use Rattle.truth.proofs.Weighted.{vanishes-exactly}
 
@@ -73,21 +72,21 @@ module _ {rank : ℕ → ℕ} {terms : List Term} {pairs : List Pair} {state : S
     unfolding weightedRow weighted
     free c inside = by (decLt c (length terms)) (ℕ-discrete c TERMS)
       where
-        image : sum (length terms) (λ t. f t *ℚ alone t oneℚ c) +ℚ alone-form TERMS (f TERMS) c ≡ zeroℚ
-        image = ap (λ x. x +ℚ alone-form TERMS (f TERMS) c) (sym (sum-equal (length terms) (λ t below. own t c below inside))) ∙ image-vanishes beyond c inside
+        image : sum (length terms) (λ t. f t *ℚ alone t oneℚ c) +ℚ alone TERMS (f TERMS) c ≡ zeroℚ
+        image = ap (λ x. x +ℚ alone TERMS (f TERMS) c) (sym (sum-equal (length terms) (λ t below. own t c below inside))) ∙ image-vanishes beyond c inside
 
         other-columns : (t : ℕ) → t ≢ c → f t *ℚ alone t oneℚ c ≡ zeroℚ
-        other-columns t other = ap (λ x. f t *ℚ x) (alone-off (λ same. other (sym same)) oneℚ) ∙ times-zero (f t)
+        other-columns t other = ap (λ x. f t *ℚ x) (alone-elsewhere (λ same. other (sym same)) oneℚ) ∙ times-zero (f t)
 
         by : Dec (c < length terms) → Dec (c ≡ TERMS) → f c ≡ zeroℚ
         by (yes below) last =
             let fits = shaped .fits in
             sym (ap₂ _+ℚ_
-            (sum-single (length terms) c (λ t. f t *ℚ alone t oneℚ c) below (λ t under. other-columns t) ∙ ap (λ x. f c *ℚ x) (alone-at c oneℚ) ∙ times-one (f c))
+            (sum-single (length terms) c (λ t. f t *ℚ alone t oneℚ c) below (λ t under. other-columns t) ∙ ap (λ x. f c *ℚ x) (alone-there c oneℚ) ∙ times-one (f c))
             (alone-elsewhere (omega arith) (f TERMS)) ∙ plus-zero (f c)) ∙ image
         by (no past) (yes last) =
             let fits = shaped .fits in
             sym (ap₂ _+ℚ_
             (sum-equal (length terms) (λ t under. other-columns t (omega arith)) ∙ sum-zeros (length terms))
-            (ap (alone-form TERMS (f TERMS)) last ∙ alone-there TERMS (f TERMS) ∙ ap f (sym last)) ∙ zero-add ℚ-ring (f c)) ∙ image
+            (ap (alone TERMS (f TERMS)) last ∙ alone-there TERMS (f TERMS) ∙ ap f (sym last)) ∙ zero-add ℚ-ring (f c)) ∙ image
         by (no past) (no inner) = beyond c (omega arith) (omega arith)

@@ -14,7 +14,7 @@ use Rattle.fraction.specs.Exact.{ℚ, zeroℚ, oneℚ, _+ℚ_, _-ℚ_, _*ℚ_, 
 use Rattle.fraction.proofs.Equality.{ℚ-discrete}
 use Rattle.fraction.proofs.Field.{ℚ-ring, readsℚ, plus-zero, times-zero, difference-zero, one-not-zero}
 use Rattle.linear.specs.Form.{Form, eval}
-use Rattle.linear.proofs.Alone.{alone-elsewhere}
+use Rattle.linear.proofs.Alone.{alone-there, alone-elsewhere}
 use Rattle.linear.proofs.Eval.{eval-minus}
 use Rattle.linear.proofs.Sum.{sum-single}
 use Rattle.problem.specs.declared.Term.{Term}
@@ -29,7 +29,7 @@ use Rattle.invariant.specs.Invariant.{Shaped, Meets, Unsolved, Lower, isUnknown
 use Rattle.invariant.proofs.Count.{count-equal}
 use Rattle.invariant.proofs.Solved.{unsolved-there}
 use Rattle.invariant.proofs.Steps.{cell-past}
-use Rattle.invariant.proofs.Units.{alone-at, alone-off, alone-value, column-below}
+use Rattle.invariant.proofs.Units.{alone-value, column-below}
 use Rattle.truth.specs.Sums.{weighted, weightedRow}
 use Rattle.order.proofs.Free.{zero-unless, zero-times, image-vanishes, free}
 
@@ -57,7 +57,7 @@ module _ {rank : ℕ → ℕ} {terms : List Term} (shaped : Shaped terms) where
           ∙ ring ℚ-ring (v c ∷ []) (search readsℚ depth 20) refl
 
       other-column : (t : ℕ) → t ≢ c → cell (state .table) c t ≡ zeroℚ → less-row (state .table) c t ≡ zeroℚ
-      other-column t other none = ap₂ _-ℚ_ (alone-off other oneℚ) none ∙ ring ℚ-ring [] (search readsℚ depth 20) refl
+      other-column t other none = ap₂ _-ℚ_ (alone-elsewhere other oneℚ) none ∙ ring ℚ-ring [] (search readsℚ depth 20) refl
 
       beyond : (t : ℕ) → length terms ≤ t → t < TERMS → less-row (state .table) c t ≡ zeroℚ
       beyond t past below = other-column t (λ same. let first = unsolved .below in omega arith) (zero-unless _ (λ some. let early = complete .invariant .columns c t below some .below in omega arith))
@@ -68,7 +68,7 @@ module _ {rank : ℕ → ℕ} {terms : List Term} (shaped : Shaped terms) where
       elsewhere t below other = by (ℚ-discrete (cell (state .table) c t) zeroℚ)
         where
           row : rank t < rank c → Unsolved terms (state′ .table) t ⊎ Lower rank (state′ .table) t → cell (state′ .table) t c ≡ zeroℚ
-          row before (inl own) = own .itself c (column-below (omega (arith, inside (unsolved .below)))) ∙ alone-off (λ same. other (sym same)) oneℚ
+          row before (inl own) = own .itself c (column-below (omega (arith, inside (unsolved .below)))) ∙ alone-elsewhere (λ same. other (sym same)) oneℚ
           row before (inr lower′) = zero-unless (cell (state′ .table) t c) (λ some. let after = lower′ c (inside (unsolved .below)) some in omega arith)
 
           by : Dec (cell (state .table) c t ≡ zeroℚ) → less-row (state .table) c t *ℚ cell (state′ .table) t c ≡ zeroℚ
@@ -84,7 +84,7 @@ module _ {rank : ℕ → ℕ} {terms : List Term} (shaped : Shaped terms) where
         where
           own : less-row (state .table) c c *ℚ cell (state′ .table) c c ≡ oneℚ
           own =
-              ap₂ _*ℚ_ (ap₂ _-ℚ_ (alone-at c oneℚ) (zero-unless (cell (state .table) c c) (λ some. let itself = lower c (inside (unsolved .below)) some in omega arith)))
+              ap₂ _*ℚ_ (ap₂ _-ℚ_ (alone-there c oneℚ) (zero-unless (cell (state .table) c c) (λ some. let itself = lower c (inside (unsolved .below)) some in omega arith)))
               (unsolved-there terms (state′ .table) c (inside (unsolved .below)) unsolved)
               ∙ ring ℚ-ring [] (search readsℚ depth 20) refl
 

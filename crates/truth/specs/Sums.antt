@@ -2,7 +2,7 @@
 -- Main definitions: `valueAt`, `weighted`, `weightedRow`. Assumes nothing.
 use Prim.Native.Nat.{ℕ}
 use Rattle.fraction.specs.Exact.{ℚ, _+ℚ_, _*ℚ_}
-use Rattle.linear.specs.Fixed.{alone}
+use Rattle.run.specs.Build.{alone}
 use Rattle.linear.specs.Form.{sum, eval}
 use Rattle.run.specs.Row.{TERMS, Table, cell}
 

@@ -13,7 +13,7 @@ use Rattle.answer.specs.declared.Answer.{Answer}
 use Rattle.fraction.specs.Exact.{ℚ, whole, zeroℚ, eqℚ}
 use Rattle.fraction.specs.Made.{Made, made, stopped}
 use Rattle.fraction.proofs.Equality.{eqℚ-yes}
-use Rattle.linear.specs.Fixed.{alone}
+use Rattle.run.specs.Build.{alone}
 use Rattle.linear.specs.Form.{sum}
 use Rattle.reading.specs.Forced.{Met}
 use Rattle.valuation.specs.Sound.{Sound}

@@ -3,13 +3,19 @@
 pub use library::{Listed, Told};
 use plain::Answer;
 
+/// Decides a problem over two lent lists.
+pub type Decide = fn(bytes: &[u8], nums: &mut [i32], dens: &mut [i32]) -> Told;
+
+/// Lists row `t` of two lists into a buffer.
+pub type ListRow = fn(buf: &mut [u8], at: usize, nums: &[i32], dens: &[i32], t: usize) -> Listed;
+
 /// An implementation of document 01, as two functions.
 #[derive(Clone, Copy)]
 pub struct Side {
-    /// Decides a problem over two lent lists.
-    pub decide: fn(&[u8], &mut [i32], &mut [i32]) -> Told,
-    /// Lists a row: buffer, place reached, both lists, row.
-    pub list_row: fn(&mut [u8], usize, &[i32], &[i32], usize) -> Listed,
+    /// How it decides.
+    pub decide: Decide,
+    /// How it lists a row.
+    pub list_row: ListRow,
 }
 
 /// The proved library.

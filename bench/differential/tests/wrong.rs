@@ -3,7 +3,7 @@
 use differential::check::{Checker, Fault};
 use differential::inputs::{families, BLOCK};
 use differential::lending::Noise;
-use differential::sides::{Listed, Side, Told, OURS, PLAIN};
+use differential::sides::{Decide, Listed, Side, Told, OURS, PLAIN};
 
 /// How many inputs of each family a wrong implementation may stay unseen on.
 const ENOUGH: u64 = 1_000;
@@ -102,7 +102,7 @@ fn order_bound(bytes: &[u8], nums: &mut [i32], dens: &mut [i32]) -> Told {
 
 #[test]
 fn wrong_decisions_are_caught() {
-    let wrong: [fn(&[u8], &mut [i32], &mut [i32]) -> Told; 7] = [
+    let wrong: [Decide; 7] = [
         without_sign,
         first_assumption,
         miscounting,

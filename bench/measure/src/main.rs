@@ -4,6 +4,7 @@
 #![forbid(unsafe_code)]
 
 mod child;
+mod clock;
 mod families;
 mod goals;
 mod instructions;

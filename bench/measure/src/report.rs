@@ -3,7 +3,7 @@
 use crate::families::{self, Family, DENSE, TYPICAL, WORST};
 use crate::goals::{Bound, Goal};
 use crate::timing::{medians, shortest};
-use crate::{child, instructions, solvers, stack};
+use crate::{child, clock, instructions, solvers, stack};
 use differential::sides::{OURS, PLAIN};
 use differential::solver::{Solver, SOLVERS};
 use std::error::Error;
@@ -40,12 +40,13 @@ pub fn all() -> Result<(), Box<dyn Error>> {
     Ok(())
 }
 
-/// How busy the machine is: on a busy one the times say little.
+/// How busy the machine is, and which clock is used.
 fn machine() -> String {
     let processors = thread::available_parallelism().map_or(1, |count| count.get());
     let load = fs::read_to_string("/proc/loadavg").unwrap_or_default();
     let load = load.split_whitespace().next().unwrap_or("unknown");
-    format!("{processors} processors, load {load} at the start")
+    let clock = if clock::is_processor_time() { "processor time" } else { "time of day" };
+    format!("{processors} processors, load {load} at the start; times are {clock}")
 }
 
 /// One time over another.
@@ -126,8 +127,10 @@ fn typical_goal(measured: &[Measured]) -> Goal {
 fn dense_goal(measured: &[Measured]) -> Goal {
     let mut goal = Goal::new("any problem of 64 terms and 64 assumptions", Bound::Most(5.0), " ms");
     for one in measured.iter().filter(|one| [DENSE, WORST].contains(&one.family.name)) {
-        for problem in &one.family.problems {
-            goal.note(milli(shortest(OURS, from_ref(problem), 9)), one.family.name);
+        let time = |problem: &&Vec<u8>| shortest(OURS, from_ref(*problem), 3);
+        if let Some(slowest) = one.family.problems.iter().max_by_key(time) {
+            let [time, _] = medians([OURS, PLAIN], from_ref(slowest));
+            goal.note(milli(time), one.family.name);
         }
     }
     goal
@@ -156,9 +159,9 @@ fn stack_use(measured: &[Measured]) -> Result<Goal, Box<dyn Error>> {
     let problems: Vec<Vec<u8>> =
         measured.iter().flat_map(|one| one.family.problems.clone()).collect();
     let file = child::keep("stack", &problems)?;
-    let [ours, plain] = ["ours", "plain"].map(|side| stack::taken(side, &file));
-    let (count, step) = (problems.len(), stack::STEP);
-    println!("Stack of a decision, the most over {count} problems, to {step} bytes:");
+    let (ours, plain) = (stack::taken("ours", &file)?, stack::taken("plain", &file)?);
+    let (count, closely) = (problems.len(), stack::CLOSELY);
+    println!("Stack of a decision, the most over {count} problems, to {closely} bytes:");
     println!("library {ours} bytes, plain {plain} bytes\n");
     let mut goal = Goal::new("stack of a decision", Bound::Most(200_000.0), " bytes");
     goal.note(ours as f64, "all problems above");

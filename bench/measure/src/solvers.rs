@@ -1,15 +1,16 @@
 //! Times of SMT solvers on the same problems.
 
+use crate::clock;
 use crate::timing::decide_once;
 use differential::sides::OURS;
 use differential::solver::Solver;
 use plain::smt;
 use std::io;
-use std::time::{Duration, Instant};
+use std::time::Duration;
 
 /// How many problems of a family are put before a solver; a family with fewer
 /// is repeated.
-pub const PROBLEMS: usize = 20;
+pub const PROBLEMS: usize = 40;
 
 /// The times per problem of a solver.
 pub struct Times {
@@ -26,15 +27,16 @@ pub fn times(solver: &Solver, problems: &[Vec<u8>]) -> io::Result<Times> {
     let problems = problems.iter().cycle().take(PROBLEMS);
     let words = problems.clone().map(|problem| Some(decide_once(OURS, problem).word));
     let scripts: Vec<String> = problems.map(|problem| smt::script(problem)).collect();
-    let start = Instant::now();
+    let start = clock::of_children();
     let said: Vec<Option<u8>> =
         scripts.iter().map(|script| solver.word(script)).collect::<io::Result<_>>()?;
-    let each = start.elapsed() / PROBLEMS as u32;
+    let each = (clock::of_children() - start) / PROBLEMS as u32;
     let agreed = said.into_iter().zip(words).filter(|(said, word)| said == word).count();
     let script = together(&scripts);
-    let start = Instant::now();
+    let start = clock::of_children();
     solver.output(&script)?;
-    Ok(Times { each, together: start.elapsed() / PROBLEMS as u32, agreed })
+    let together = (clock::of_children() - start) / PROBLEMS as u32;
+    Ok(Times { each, together, agreed })
 }
 
 /// One script for several problems, each in a scope of its own.

@@ -1,18 +1,20 @@
 //! Times of decisions.
 
+use crate::clock;
 use differential::sides::{Side, Told};
 use plain::PLACES;
 use std::hint::black_box;
 use std::time::{Duration, Instant};
 
-/// How many rounds a median is taken over, where they are short.
-const ROUNDS: usize = 201;
-/// How many at least.
-const FEWEST: usize = 9;
-/// How long all rounds of both sides may last, if they are not the fewest.
-const ALL: Duration = Duration::from_secs(1);
-/// How long a round lasts at least: short, to fit between disturbances.
-const ROUND: Duration = Duration::from_micros(300);
+/// How many rounds a median is taken over.
+const ROUNDS: usize = 7;
+/// How long a round lasts at least: long enough for a clock that is brought
+/// up to date every few milliseconds.
+const ROUND: Duration = Duration::from_millis(60);
+
+/// How many times the problems are decided at most before the clock is
+/// looked at again.
+const MOST_AT_ONCE: usize = 1 << 10;
 
 /// Decides a problem once.
 pub fn decide_once(side: Side, problem: &[u8]) -> Told {
@@ -32,31 +34,30 @@ pub fn decide_all(side: Side, problems: &[Vec<u8>], times: usize) {
 
 /// The median times per problem of two sides, whose rounds take turns.
 pub fn medians(sides: [Side; 2], problems: &[Vec<u8>]) -> [Duration; 2] {
-    let (start, mut times) = (Instant::now(), [Vec::new(), Vec::new()]);
-    for count in 0..ROUNDS {
-        if count >= FEWEST && start.elapsed() >= ALL {
-            break;
-        }
+    let mut times = [Vec::new(), Vec::new()];
+    for _ in 0..ROUNDS {
         for (side, times) in sides.into_iter().zip(&mut times) {
             times.push(round(side, problems));
         }
     }
     times.map(|mut times| {
         times.sort();
-        times[times.len() / 2]
+        times[ROUNDS / 2]
     })
 }
 
-/// The time per problem of one round.
+/// The time per problem of one round. The clock is looked at seldom, since
+/// that takes time of its own.
 fn round(side: Side, problems: &[Vec<u8>]) -> Duration {
-    let (start, mut calls) = (Instant::now(), 0);
+    let (start, mut calls, mut times) = (clock::of_thread(), 0, 1);
     loop {
-        decide_all(side, problems, 1);
-        calls += problems.len() as u32;
-        let time = start.elapsed();
+        decide_all(side, problems, times);
+        calls += times * problems.len();
+        let time = clock::of_thread() - start;
         if time >= ROUND {
-            return time / calls;
+            return time / calls as u32;
         }
+        times = calls.div_ceil(problems.len()).min(MOST_AT_ONCE);
     }
 }
 

@@ -3,8 +3,9 @@
 //! `smt_check [SEED [TIMES]]`. Of each kind of problem some are taken that the
 //! library does not refuse. Not-entailed must be satisfiable with the goal
 //! denied, entailed unsatisfiable then but not before, contradictory
-//! unsatisfiable from the start. Exit status 1 if a solver says otherwise;
-//! problems that it does not know are counted.
+//! unsatisfiable from the start. Problems that a solver does not know are
+//! counted. Exit status 1 if a solver says otherwise, or if it is installed
+//! and answers fewer than 1,000 problems.
 
 #![forbid(unsafe_code)]
 
@@ -36,6 +37,9 @@ const KINDS: [(&str, Generator, usize); 12] = [
     ("limit_order", gen::limit_order, 60),
 ];
 
+/// How many problems an installed solver has to answer.
+const ANSWERED: usize = 1_000;
+
 /// A problem that is not refused, and its word's number.
 struct Problem {
     name: String,
@@ -56,17 +60,21 @@ fn main() -> Result<ExitCode, Box<dyn Error>> {
     let seed = numbers.first().copied().unwrap_or(1);
     let times = numbers.get(1).copied().unwrap_or(1);
     let problems = problems(seed, times as usize);
-    let mut disagreed = false;
+    let mut failed = false;
     for solver in &SOLVERS {
         if !solver.is_installed() {
             println!("{}: not installed, passed over", solver.name);
             continue;
         }
         let opinion = opinion(solver, &problems)?;
-        disagreed |= !opinion.disagreed.is_empty();
         report(solver, &problems, &opinion, seed);
+        failed |= !opinion.disagreed.is_empty();
+        if problems.len() - opinion.unknown < ANSWERED {
+            println!("{}: fewer than {ANSWERED} problems answered", solver.name);
+            failed = true;
+        }
     }
-    Ok(ExitCode::from(u8::from(disagreed)))
+    Ok(ExitCode::from(u8::from(failed)))
 }
 
 fn report(solver: &Solver, problems: &[Problem], opinion: &Opinion, seed: u64) {

@@ -1,11 +1,12 @@
 -- The test of two rows, number by number.
--- Main results: `equal-numbers`, `unequal-numbers`, `same-step`, `row-itself`, `same-rows`. Assume nothing.
+-- Main results: `equal-numbers`, `unequal-numbers`, `same-step`, `row-itself`, `same-rows`, `differing-rows`. Assume nothing.
 use mathlib.Core.Path.{_≡_, refl, sym, ap, ap₂, _∙_}
-use mathlib.Core.Bool.{Bool, true, false, _&&_}
+use mathlib.Core.Bool.{Bool, true, false, _&&_, false≢true}
 use mathlib.Core.List.{List}
 use Prim.Native.Nat.{ℕ, zero, suc, _+_, _-_, _*_, _<_, _≤_}
 use native.Mathlib.Omega.{arith}
-use lib.IntN.{ℤ}
+use lib.IntN.{ℤ, pos}
+use lib.ListN.{getD}
 use mir.Syntax.{w32}
 use mir.Val.{SFits, toZ, ofZ}
 use mir.Facts.{toZ-ofZ}
@@ -15,8 +16,9 @@ use Rattle.fraction.proofs.Equality.{eqℚ-yes, eqℚ-same}
 use Rattle.arithmetic.specs.Values.{Good}
 use Rattle.arithmetic.proofs.Lowest.{value-one-to-one}
 use Rattle.arithmetic.proofs.Operations.{good-num, good-den}
-use Rattle.run.specs.Row.{Row, Table, TERMS, COLUMNS, column, rowOf, sameTo, sameRow}
-use Rattle.table.specs.Held.{heldAt, rowAt, tableAt}
+use Rattle.run.specs.Row.{Row, Table, TERMS, COLUMNS, column, rowOf, cell, sameTo, sameRow}
+use Rattle.invariant.proofs.Rows.{sameRow-equal}
+use Rattle.table.specs.Held.{heldAt, rowAt, tableAt, SoundTo}
 use Rattle.table.proofs.Columns.{column-held, row-held}
 
 word-one-to-one : {x y : ℤ} → SFits w32 x → SFits w32 y → ofZ w32 x ≡ ofZ w32 y → x ≡ y
@@ -60,3 +62,18 @@ row-itself table t = same-self COLUMNS (rowOf table t)
 pub same-rows : (n : ℕ) (nums dens : List ℤ) (t u : ℕ) → t < n → u < n → sameRow (tableAt n nums dens) t u ≡ sameTo COLUMNS (rowAt nums dens (65 * t)) (rowAt nums dens (65 * u))
 unfolding sameRow COLUMNS TERMS
 same-rows n nums dens t u p q = ap₂ (sameTo COLUMNS) (row-held n nums dens t p) (row-held n nums dens u q)
+
+-- Rows that hold different numerators in a column are not equal.
+pub differing-rows : (n : ℕ) (nums dens : List ℤ) (t u c : ℕ) → t < n → u < n → c < 65 → SoundTo (65 * n) nums dens → {test : Bool} → test ≡ true → (getD nums (65 * t + c) (pos 0) ≡ getD nums (65 * u + c) (pos 0) → test ≡ false) → sameRow (tableAt n nums dens) t u ≡ false
+unfolding COLUMNS TERMS cell
+differing-rows n nums dens t u c p q within sound taken equal = by (sameRow (tableAt n nums dens) t u) refl
+  where
+    held : (k : ℕ) → k < n → cell (tableAt n nums dens) k c ≡ value (heldAt nums dens (65 * k + c))
+    held k below = ap (λ r. column r c) (row-held n nums dens k below) ∙ column-held nums dens (65 * k) c within
+
+    by : (test : Bool) → sameRow (tableAt n nums dens) t u ≡ test → test ≡ false
+    by false e = refl
+    by true e =
+        let same = sym (held t p) ∙ sameRow-equal (tableAt n nums dens) t u .0 e c within ∙ held u q in
+        let one = value-one-to-one (sound .good (65 * t + c) (omega arith)) (sound .good (65 * u + c) (omega arith)) same in
+        absurd (false≢true (sym (equal (ap (λ f. f .num) one)) ∙ taken))

@@ -4,7 +4,9 @@ use table::COLUMNS;
 use table::get;
 ghost use mathlib.Core.Path.{_≡_};
 ghost use Prim.Native.Nat.{_+_, _*_, _<_, _≤_};
-ghost use lib.ListN.{length};
+ghost use mathlib.Core.Bool.{false};
+ghost use lib.ListN.{length, getD};
+ghost use lib.IntN.{pos};
 ghost use Rattle.fraction.specs.Exact.{value, eqℚ};
 ghost use Rattle.arithmetic.specs.Values.{Good};
 ghost use Rattle.run.specs.Row.{COLUMNS, sameTo, sameRow};
@@ -44,7 +46,16 @@ fn same_places(nums: &[i32], dens: &[i32], left: usize, right: usize) -> bool
     true
 }
 
-// Whether terms t and u, of n, have equal rows.
+// Whether the rows of t and u hold different numerators in column c: one look instead of a walk.
+fn differ_at(nums: &[i32], t: usize, u: usize, c: usize) -> bool
+    requires { ⌜ (t < 64) × (u < 64) × (c < 65) × (4160 ≤ length (now nums)) ⌝ }
+    ensures { λ r. ⌜ (getD (now (nums .entry)) (65 * t + c) (pos 0) ≡ getD (now (nums .entry)) (65 * u + c) (pos 0) → r ≡ false) ⌝ }
+{
+    nums[COLUMNS * t + c] != nums[COLUMNS * u + c]
+}
+
+// Whether terms t and u, of n, have equal rows. An unknown that is not solved stands in its own column, where the rows before
+// hold 0: the columns of t and u are looked at first.
 pub fn same_row(nums: &[i32], dens: &[i32], n: usize, t: usize, u: usize) -> bool
     requires { ⌜ (t < n) × (u < n) × (n ≤ 64) ⌝ }
     requires { ⌜ (4160 ≤ length (now nums)) × (4160 ≤ length (now dens)) ⌝ }
@@ -53,6 +64,12 @@ pub fn same_row(nums: &[i32], dens: &[i32], n: usize, t: usize, u: usize) -> boo
 {
     if t == u {
         return true;
+    }
+    if differ_at(nums, t, u, u) {
+        return false;
+    }
+    if differ_at(nums, t, u, t) {
+        return false;
     }
     same_places(nums, dens, COLUMNS * t, COLUMNS * u)
 }

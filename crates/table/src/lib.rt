@@ -11,6 +11,14 @@ pub const TERMS: usize = 64;
 // 01, The run: a row is "a fraction for each term number (columns 0 to 63) and a constant (column 64)".
 pub const COLUMNS: usize = TERMS + 1;
 
+// The sets of a run stand in one list: the columns of row t at t, then the lookups that use t, then the lookups before t of the
+// same function, and last those that closing has to look at again.
+pub const USERS: usize = TERMS;
+
+pub const EARLIER: usize = 2 * TERMS;
+
+pub const PENDING: usize = 3 * TERMS;
+
 // A step that writes into the lists is done, or refused with a number.
 pub enum Step {
     Done,

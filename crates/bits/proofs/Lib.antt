@@ -1,0 +1,4 @@
+pub mod Digits
+pub mod Lowest
+pub mod Unique
+pub mod Onward

@@ -1,0 +1,61 @@
+-- The least number of a set from one number on.
+-- Main results: `none-beyond`, `none-left`, `found-onward`. Assume nothing.
+use mathlib.Core.Path.{_≡_, sym, ap, _∙_}
+use mathlib.Core.Bool.{true, false, false≢true}
+use Prim.Native.Nat.{ℕ, _+_, _-_, _/_, _^_, _<_, _≤_}
+use native.Mathlib.Nat.{div-eq-of-lt}
+use native.Mathlib.Decide.{decLt}
+use native.Mathlib.Omega.{arith}
+use Rattle.bits.specs.Sets.{holds, Least, Next}
+use Rattle.bits.proofs.Digits.{holds-none, holds-shifted}
+
+-- A number below 2^64 has no bit from 64 on.
+holds-beyond : (set k : ℕ) → 64 ≤ k → set < 2 ^ 64 → holds set k ≡ false
+holds-beyond set k beyond fits =
+    let there : k ≡ 64 + (k - 64) = omega arith in
+    ap (holds set) there ∙ sym (holds-shifted set 64 (k - 64)) ∙ ap (λ x. holds x (k - 64)) (div-eq-of-lt fits) ∙ holds-none (k - 64)
+
+module _ (set from : ℕ) where
+  -- From 64 on there is nothing below 64.
+  pub none-beyond : from ≡ 64 → Next set from 64
+  none-beyond at =
+      record {
+        forward = omega arith;
+        most = omega arith;
+        none-between = λ k above below. absurd (omega arith);
+        inside = λ below. absurd (omega arith);
+      }
+
+  -- a number from `from` on, from there
+  onward : (k : ℕ) → from ≤ k → holds (set / 2 ^ from) (k - from) ≡ holds set k
+  onward k above =
+      let there : from + (k - from) ≡ k = omega arith in
+      holds-shifted set from (k - from) ∙ ap (holds set) there
+
+  -- Nothing is left from there on.
+  pub none-left : from ≤ 64 → set / 2 ^ from ≡ 0 → Next set from 64
+  none-left small none =
+      record {
+        forward = small;
+        most = omega arith;
+        none-between = λ k above below. sym (onward k above) ∙ ap (λ s. holds s (k - from)) none ∙ holds-none (k - from);
+        inside = λ below. absurd (omega arith);
+      }
+
+  -- A set of numbers below 64 holds no other.
+  pub onward-most : set < 2 ^ 64 → (i : ℕ) → Least (set / 2 ^ from) i → from + i < 64
+  onward-most fits i least = by (decLt (from + i) 64)
+    where
+      by : Dec (from + i < 64) → from + i < 64
+      by (yes below) = below
+      by (no beyond) = absurd (false≢true (sym (holds-beyond set (from + i) (omega arith) fits) ∙ sym (holds-shifted set from i) ∙ least .inside))
+
+  -- The least of what is left.
+  pub found-onward : set < 2 ^ 64 → (i : ℕ) → Least (set / 2 ^ from) i → Next set from (from + i)
+  found-onward fits i least =
+      record {
+        forward = omega arith;
+        most = omega (arith, onward-most fits i least);
+        none-between = λ k above below. sym (onward k above) ∙ least .none-below (k - from) (omega arith);
+        inside = λ below. sym (holds-shifted set from i) ∙ least .inside;
+      }

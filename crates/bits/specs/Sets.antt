@@ -1,0 +1,22 @@
+-- Sets of numbers, each set as the bits of one number.
+-- Main definitions: `holds`, `Least`, `Next`. Assume nothing.
+use mathlib.Core.Path.{_≡_}
+use mathlib.Core.Bool.{Bool, true, false}
+use Prim.Native.Nat.{ℕ, _/_, _%_, _^_, _<_, _≤_}
+use lib.Dec.{eqb}
+
+-- Whether number i is in the set: whether bit i of it is 1.
+unfoldable pub holds : (set i : ℕ) → Bool
+holds set i = eqb (set / 2 ^ i % 2) 1
+
+-- i is the least number in the set.
+pub record Least (set i : ℕ) : Type 0 where
+  pub inside : holds set i ≡ true
+  pub none-below : (k : ℕ) → k < i → holds set k ≡ false
+
+-- r is the least number in the set from `from` on, or 64, where there is none below 64.
+pub record Next (set from r : ℕ) : Type 0 where
+  pub forward : from ≤ r
+  pub most : r ≤ 64
+  pub none-between : (k : ℕ) → from ≤ k → k < r → holds set k ≡ false
+  pub inside : r < 64 → holds set r ≡ true

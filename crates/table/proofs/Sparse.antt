@@ -1,0 +1,71 @@
+-- Loops that go from column to column of a set, and what the sets of a run say after a step.
+-- Main results: `making-skips`, `zero-numerator`, `within-set`, `within-other`, `within-more`, `stirred-itself`. Assume nothing.
+use mathlib.Core.Path.{_≡_, refl, sym, ap, _∙_}
+use mathlib.Core.Logic.{_⊎_, inl, inr, _≢_}
+use mathlib.Core.Bool.{true, false, false≢true}
+use mathlib.Core.List.{List}
+use Prim.Native.Nat.{ℕ, _+_, _≤_, _<_}
+use native.Mathlib.Decide.{decLt}
+use native.Mathlib.Omega.{arith}
+use lib.ListN.{getD, set}
+use lib.Seq.{getD-set-other}
+use lib.IntN.{ℤ, pos}
+use mir.Syntax.{w32}
+use mir.Val.{ofZ}
+use Rattle.fraction.specs.declared.Fraction.{Fraction}
+use Rattle.fraction.specs.Exact.{ℚ, value, zeroℚ}
+use Rattle.fraction.specs.Made.{Made, made}
+use Rattle.arithmetic.specs.Values.{Good}
+use Rattle.arithmetic.proofs.Tests.{zero-value}
+use Rattle.bits.specs.Sets.{holds}
+use Rattle.table.specs.Held.{heldAt}
+use Rattle.table.specs.Loop.{Making}
+use Rattle.table.specs.Sparse.{Within, Stirred}
+
+-- Columns that the rule leaves as they are need no turn.
+pub making-skips : {g : ℕ → Made ℕ ℚ} {base m j : ℕ} (i : ℕ) {nums₀ dens₀ nums dens : List ℤ} → j ≤ i → ((c : ℕ) → j ≤ c → c < i → g c ≡ made (value (heldAt nums₀ dens₀ (base + c)))) → Making g base m j nums₀ dens₀ nums dens → Making g base m i nums₀ dens₀ nums dens
+making-skips {g} {base} {m} {j} i {nums₀} {dens₀} {nums} {dens} on stays making =
+    record {
+      kept = record { nums-length = making .kept .nums-length; dens-length = making .kept .dens-length; outside = λ k h. making .kept .outside k (wider k h) };
+      made-below = λ c below. by c below (decLt c j);
+      sound = making .sound;
+    }
+  where
+    wider : (k : ℕ) → (k < base) ⊎ (base + i ≤ k) → (k < base) ⊎ (base + j ≤ k)
+    wider k (inl h) = inl h
+    wider k (inr h) = inr (omega arith)
+
+    by : (c : ℕ) → c < i → Dec (c < j) → g c ≡ made (value (heldAt nums dens (base + c)))
+    by c below (yes passed) = making .made-below c passed
+    by c below (no later) = stays c (omega arith) below ∙ ap (λ x. made (value x)) (sym (making .kept .outside (base + c) (inr (omega arith))))
+
+-- A good fraction whose numerator is 0 is 0.
+pub zero-numerator : {f : Fraction} → Good f → f .num ≡ pos 0 → value f ≡ zeroℚ
+zero-numerator good none = zero-value good (ap (ofZ w32) none)
+
+-- A column of the set may be stored to, and every place outside the row.
+pub within-set : {s base : ℕ} {nums : List ℤ} (c : ℕ) (x : ℤ) → holds s c ≡ true → Within s base nums → Within s base (set nums (base + c) x)
+within-set {s} {base} {nums} c x inside within =
+    record { zero = λ k below out. getD-set-other nums (base + c) (base + k) x (pos 0) (apart k out) ∙ within .zero k below out }
+  where
+    apart : (k : ℕ) → holds s k ≡ false → base + k ≢ base + c
+    apart k out e =
+        let same : k ≡ c = omega arith in
+        false≢true (sym out ∙ ap (holds s) same ∙ inside)
+
+pub within-other : {s base : ℕ} {nums : List ℤ} (k : ℕ) (x : ℤ) → (k < base) ⊎ (base + 64 ≤ k) → Within s base nums → Within s base (set nums k x)
+within-other {s} {base} {nums} k x away within =
+    record { zero = λ c below out. getD-set-other nums k (base + c) x (pos 0) (apart c below away) ∙ within .zero c below out }
+  where
+    apart : (c : ℕ) → c < 64 → (k < base) ⊎ (base + 64 ≤ k) → base + c ≢ k
+    apart c below (inl h) e = omega arith
+    apart c below (inr h) e = omega arith
+
+-- A larger set has room for the row too.
+pub within-more : {s r base : ℕ} {nums : List ℤ} → ((c : ℕ) → holds r c ≡ false → holds s c ≡ false) → Within s base nums → Within r base nums
+within-more covers within = record { zero = λ c below out. within .zero c below (covers c out) }
+
+-- Where nothing is done, nothing is stirred.
+pub stirred-itself : (n : ℕ) (nums dens : List ℤ) (sets : List ℕ) → Stirred n nums dens nums dens sets sets
+stirred-itself n nums dens sets =
+    record { same-length = refl; links = λ k low high. refl; remembered = λ j h. h; woken = λ t below. inl refl }

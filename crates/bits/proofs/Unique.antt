@@ -1,16 +1,14 @@
 -- The public functions on sets: each contract leaves one answer.
 -- Main results: `sets-equal`, and by it a law NAME-unique for each public function NAME. Assume nothing.
-use mathlib.Core.Path.{_≡_, sym, ap, _∙_}
-use mathlib.Core.Bool.{Bool, true, false, not, _&&_, _||_, true≢false}
+use mathlib.Core.Path.{_≡_, sym, _∙_}
+use mathlib.Core.Bool.{Bool, not, _&&_, _||_, true≢false}
 use Prim.Native.Nat.{ℕ, zero, suc, _/_, _%_, _^_, _<_}
 use native.Mathlib.Nat.{pow-suc}
 use native.Mathlib.Decide.{decLt}
 use native.Mathlib.Omega.{arith}
-use lib.Count.{trailingZeros}
 use lib.Dec.{eqb}
-use Rattle.bits.specs.Sets.{holds, Least}
+use Rattle.bits.specs.Sets.{holds, Next}
 use Rattle.bits.proofs.Digits.{holds-zero, holds-suc}
-use Rattle.bits.proofs.Lowest.{lowest}
 
 -- Two bits that pass the test alike are equal.
 bits-equal : (p q : ℕ) → p < 2 → q < 2 → eqb p 1 ≡ eqb q 1 → p ≡ q
@@ -46,22 +44,17 @@ module _ (r s : ℕ) (hr : r < 2 ^ 64) (hs : s < 2 ^ 64) where
   pub common-unique : (a b : ℕ) → ((k : ℕ) → holds r k ≡ (holds a k && holds b k)) → ((k : ℕ) → holds s k ≡ (holds a k && holds b k)) → r ≡ s
   common-unique a b = told-unique (λ k. holds a k && holds b k) r s hr hs
 
-  pub without-least-unique : (set : ℕ) → 0 < set → set < 2 ^ 64
-      → ((i : ℕ) → Least set i → (k : ℕ) → holds r k ≡ (holds set k && not (eqb k i)))
-      → ((i : ℕ) → Least set i → (k : ℕ) → holds s k ≡ (holds set k && not (eqb k i))) → r ≡ s
-  without-least-unique set some small p q =
-      let i = trailingZeros 64 set in
-      let first = lowest 64 set some small .1 in
-      told-unique (λ k. holds set k && not (eqb k i)) r s hr hs (p i first) (q i first)
+  pub without-unique : (set i : ℕ) → ((k : ℕ) → holds r k ≡ (not (eqb k i) && holds set k)) → ((k : ℕ) → holds s k ≡ (not (eqb k i) && holds set k)) → r ≡ s
+  without-unique set i = told-unique (λ k. not (eqb k i) && holds set k) r s hr hs
 
 pub has-unique : (set i : ℕ) (r s : Bool) → r ≡ holds set i → s ≡ holds set i → r ≡ s
 has-unique set i r s p q = p ∙ sym q
 
--- A set has one least number.
-pub least-unique : (set i j : ℕ) → Least set i → Least set j → i ≡ j
-least-unique set i j first second = by (decLt i j) (decLt j i)
+-- A set has one least number from a number on.
+pub next-unique : (set from r s : ℕ) → Next set from r → Next set from s → r ≡ s
+next-unique set from r s first second = by (decLt r s) (decLt s r)
   where
-    by : Dec (i < j) → Dec (j < i) → i ≡ j
-    by (yes low) _ = absurd (true≢false (sym (first .inside) ∙ second .none-below i low))
-    by (no _) (yes low) = absurd (true≢false (sym (second .inside) ∙ first .none-below j low))
+    by : Dec (r < s) → Dec (s < r) → r ≡ s
+    by (yes low) _ = absurd (true≢false (sym (first .inside (omega (arith, second .most))) ∙ second .none-between r (first .forward) low))
+    by (no _) (yes low) = absurd (true≢false (sym (second .inside (omega (arith, first .most))) ∙ first .none-between s (second .forward) low))
     by (no l) (no u) = omega arith

@@ -1,4 +1,5 @@
 pub mod Cells
 pub mod Columns
+pub mod Sets
 pub mod Tables
 pub mod Unique

@@ -2,16 +2,23 @@
 use arithmetic::Made;
 use fraction::Fraction;
 use table::COLUMNS;
+use table::PENDING;
 use table::Step;
+use table::USERS;
 ghost use mathlib.Core.Path.{_≡_};
+ghost use mathlib.Core.Bool.{true};
 ghost use Prim.Native.Nat.{_+_, _*_, _<_, _≤_};
 ghost use lib.ListN.{length};
+ghost use Rattle.bits.specs.Sets.{holds};
 ghost use Rattle.fraction.specs.Exact.{value};
 ghost use Rattle.arithmetic.specs.Values.{Good, Answers};
 ghost use Rattle.run.specs.Merge.{foldedColumn, folded};
 ghost use Rattle.table.specs.Held.{rowAt, tableAt, SoundTo, finished};
 ghost use Rattle.table.specs.Loop.{Kept, RowMade};
+ghost use Rattle.table.specs.Sparse.{Within, Sparse, Stirred};
+ghost use Rattle.table.specs.declared.Step.the-variants.{Done};
 ghost use Rattle.fold.specs.Cell.{gainedBy, foldedCell};
+ghost use Rattle.fold.specs.Sets.{Noted, Turn};
 
 // The old number gains k times the form's: one product, one sum.
 fn gained(k: Fraction, form: Fraction, old: Fraction) -> Made
@@ -42,12 +49,14 @@ fn folded_cell(c: usize, p: usize, k: Fraction, form: Fraction, old: Fraction) -
     gained(k, form, old)
 }
 
-// The columns of the row at base, with the form of p folded in.
+// The columns of the row at base, with the form of p folded in. Where the form holds 0 they stand: only those of its set are gone
+// through, and the constant's.
 fn fold_columns(
     nums: &mut [i32],
     dens: &mut [i32],
     base: usize,
     p: usize,
+    set: u64,
     form_nums: &[i32],
     form_dens: &[i32],
 ) -> Step
@@ -55,17 +64,20 @@ fn fold_columns(
     requires { ⌜ (65 ≤ length (now «form_nums»)) × (65 ≤ length (now «form_dens»)) ⌝ }
     requires { ⌜ SoundTo (base + 65) (now nums) (now dens) ⌝ }
     requires { ⌜ SoundTo 65 (now «form_nums») (now «form_dens») ⌝ }
+    requires { ⌜ Within set 0 (now «form_nums») ⌝ }
+    requires { ⌜ holds set p ≡ true ⌝ }
     ensures { λ r. ⌜ RowMade (foldedColumn p (rowAt (now («form_nums» .entry)) (now («form_dens» .entry)) 0) (rowAt (now (nums .entry)) (now (dens .entry)) base)) base (base + 65) r (now (nums .entry)) (now (dens .entry)) (now (nums .exit)) (now (dens .exit)) ⌝ }
 {
     let k = table::get(nums, dens, base + p);
     let mut c: usize = 0;
     while c < COLUMNS {
-        let form = table::get(form_nums, form_dens, c);
-        let old = table::get(nums, dens, base + c);
-        match folded_cell(c, p, k, form, old) {
+        let at = bits::next(set, c);
+        let form = table::get(form_nums, form_dens, at);
+        let old = table::get(nums, dens, base + at);
+        match folded_cell(at, p, k, form, old) {
             Made::Fits(f) => {
-                table::put(nums, dens, base + c, f);
-                c += 1;
+                table::put(nums, dens, base + at, f);
+                c = at + 1;
             }
             Made::Refused(number) => return Step::Refused(number),
         }
@@ -73,49 +85,78 @@ fn fold_columns(
     Step::Done
 }
 
-// The same, where a row whose coefficient at p is 0 is passed over: nothing in it changes.
+// The form of p, with the columns of its set, comes into row t: the row may have them from then on, and p no more; and the lookups
+// that t is an input of have to be looked at again.
+fn note(sets: &mut [u64], t: usize, p: usize, set: u64)
+    requires { ⌜ (t < 64) × (p < 64) × (length (now sets) ≡ 193) ⌝ }
+    ensures { λ r. ⌜ Noted t p set (now (sets .entry)) (now (sets .exit)) ⌝ }
+{
+    let columns = bits::without(bits::union(sets[t], set), p);
+    let pending = bits::union(sets[PENDING], sets[USERS + t]);
+    sets[t] = columns;
+    sets[PENDING] = pending;
+}
+
+// Row t, with the form of p folded in, and its sets. A row whose coefficient at p is 0 is passed over: nothing in it changes.
+// The sets are noted first, so that they are right of a row that is refused in its middle, too.
 fn fold_row(
     nums: &mut [i32],
     dens: &mut [i32],
-    base: usize,
+    t: usize,
     p: usize,
+    set: u64,
     form_nums: &[i32],
     form_dens: &[i32],
+    sets: &mut [u64],
 ) -> Step
-    requires { ⌜ (p < 64) × (base + 65 ≤ 4160) × (4160 ≤ length (now nums)) × (4160 ≤ length (now dens)) ⌝ }
+    requires { ⌜ (t < 64) × (p < 64) × (4160 ≤ length (now nums)) × (4160 ≤ length (now dens)) ⌝ }
     requires { ⌜ (65 ≤ length (now «form_nums»)) × (65 ≤ length (now «form_dens»)) ⌝ }
-    requires { ⌜ SoundTo (base + 65) (now nums) (now dens) ⌝ }
+    requires { ⌜ SoundTo (65 * t + 65) (now nums) (now dens) ⌝ }
     requires { ⌜ SoundTo 65 (now «form_nums») (now «form_dens») ⌝ }
-    ensures { λ r. ⌜ RowMade (foldedColumn p (rowAt (now («form_nums» .entry)) (now («form_dens» .entry)) 0) (rowAt (now (nums .entry)) (now (dens .entry)) base)) base (base + 65) r (now (nums .entry)) (now (dens .entry)) (now (nums .exit)) (now (dens .exit)) ⌝ }
+    requires { ⌜ Within set 0 (now «form_nums») ⌝ }
+    requires { ⌜ holds set p ≡ true ⌝ }
+    requires { ⌜ length (now sets) ≡ 193 ⌝ }
+    ensures { λ r. ⌜ RowMade (foldedColumn p (rowAt (now («form_nums» .entry)) (now («form_dens» .entry)) 0) (rowAt (now (nums .entry)) (now (dens .entry)) (65 * t))) (65 * t) (65 * t + 65) r (now (nums .entry)) (now (dens .entry)) (now (nums .exit)) (now (dens .exit)) ⌝ }
+    ensures { λ r. ⌜ Turn t p set (now (nums .entry)) (now (dens .entry)) (now (nums .exit)) (now (dens .exit)) (now (sets .entry)) (now (sets .exit)) ⌝ }
 {
+    let base = COLUMNS * t;
     let k = table::get(nums, dens, base + p);
     if k.num == 0 {
         return Step::Done;
     }
-    fold_columns(nums, dens, base, p, form_nums, form_dens)
+    note(sets, t, p, set);
+    fold_columns(nums, dens, base, p, set, form_nums, form_dens)
 }
 
 // 01, Merge: "in each row with coefficient k there, that coefficient becomes 0, and each other column gains k times the solved
-// column". The form stands in the first 65 places of its two lists.
+// column". The form stands in the first 65 places of its two lists; its set holds p, and the columns where the form is not 0.
 pub fn fold_rows(
     nums: &mut [i32],
     dens: &mut [i32],
     n: usize,
     p: usize,
+    set: u64,
     form_nums: &[i32],
     form_dens: &[i32],
+    sets: &mut [u64],
 ) -> Step
     requires { ⌜ (n ≤ 64) × (p < 64) × (4160 ≤ length (now nums)) × (4160 ≤ length (now dens)) ⌝ }
     requires { ⌜ (65 ≤ length (now «form_nums»)) × (65 ≤ length (now «form_dens»)) ⌝ }
     requires { ⌜ SoundTo (65 * n) (now nums) (now dens) ⌝ }
     requires { ⌜ SoundTo 65 (now «form_nums») (now «form_dens») ⌝ }
+    requires { ⌜ Within set 0 (now «form_nums») ⌝ }
+    requires { ⌜ holds set p ≡ true ⌝ }
+    requires { ⌜ length (now sets) ≡ 193 ⌝ }
+    requires { ⌜ Sparse n (now nums) (now sets) ⌝ }
     ensures { λ r. ⌜ folded p (rowAt (now («form_nums» .entry)) (now («form_dens» .entry)) 0) (tableAt n (now (nums .entry)) (now (dens .entry))) ≡ finished r (tableAt n (now (nums .exit)) (now (dens .exit))) ⌝ }
     ensures { λ r. ⌜ Kept 0 (65 * n) (now (nums .entry)) (now (dens .entry)) (now (nums .exit)) (now (dens .exit)) ⌝ }
     ensures { λ r. ⌜ SoundTo (65 * n) (now (nums .exit)) (now (dens .exit)) ⌝ }
+    ensures { λ r. ⌜ (r ≡ Done → Sparse n (now (nums .exit)) (now (sets .exit))) ⌝ }
+    ensures { λ r. ⌜ Stirred n (now (nums .entry)) (now (dens .entry)) (now (nums .exit)) (now (dens .exit)) (now (sets .entry)) (now (sets .exit)) ⌝ }
 {
     let mut t: usize = 0;
     while t < n {
-        match fold_row(nums, dens, COLUMNS * t, p, form_nums, form_dens) {
+        match fold_row(nums, dens, t, p, set, form_nums, form_dens, sets) {
             Step::Done => t += 1,
             Step::Refused(number) => return Step::Refused(number),
         }

@@ -1,5 +1,5 @@
 -- One turn of a loop over the columns of a row: what an operation answers is stored, or ends the loop; and how a step ends.
--- Main results: `turn-stores`, `turn-stops`, `turns-end`, `finished-done`, `finished-refused`. Assume nothing.
+-- Main results: `turn-stores`, `turn-stops`, `turns-end`, `finished-done`, `finished-refused`, `refused-not-done`. Assume nothing.
 use mathlib.Core.Path.{_≡_, sym, ap, _∙_, subst, subst₂}
 use mathlib.Core.List.{List}
 use Prim.Native.Nat.{ℕ, _+_, _≤_, _<_}
@@ -46,3 +46,6 @@ finished-done {a = a} ends done = ends ∙ ap (λ step. finished step a) done
 pub finished-refused {ℓ} : {A : Type ℓ} {m : rule.Made ℕ A} {step : Step} (a : A) {number : ℕ} → m ≡ finished step a → step ≡ Stopped number → m ≡ rule.stopped number
 unfolding finished
 finished-refused a ends refused = ends ∙ ap (λ step. finished step a) refused
+
+pub refused-not-done : {number : ℕ} → Stopped number ≡ Done → ⊥
+refused-not-done e = let never : _≡_ {A = ℕ} 0 1 = cc in omega arith

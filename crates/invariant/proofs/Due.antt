@@ -1,5 +1,5 @@
 -- The pair that closing merges next, and that a table with none is closed.
--- Main results: `Due`, `due-some`, `due-none`. Assume nothing.
+-- Main results: `Due`, `due-some`, `none-due`, `due-none`. Assume nothing.
 use mathlib.Core.Path.{_≡_, refl, sym, ap, _∙_, subst}
 use mathlib.Core.Bool.{Bool, true, false, not, _&&_, cond, and-eq-true-iff, true≢false}
 use mathlib.Core.List.{List}
@@ -83,15 +83,24 @@ module _ (terms : List Term) (table : Table) where
       by j i below before true test same = let at : _≡_ {A = Pair} (record { left = i; right = j }) pair = cc in subst (λ q. Due terms table (q .left) (q .right)) at (is-due i j before below test)
       by j i below before false test same = let no-way : _≡_ {A = ℕ} 0 1 = cc in absurd (omega arith)
 
-  -- Where closing finds nothing due the table is closed.
-  pub due-none : due terms table ≡ none → Closed terms table
-  unfolding due isDue Closed
-  due-none h i j before below similar inputs =
+  -- Where closing finds nothing due no pair is.
+  pub none-due : due terms table ≡ none → (i j : ℕ) → i < j → j < length terms → isDue terms table i j ≡ false
+  unfolding due
+  none-due h i j before below =
       let row = first-none (length terms) 0 (λ j. first j 0 (pairIf j)) h j (omega arith) (omega arith) in
-      by (first-none j 0 (pairIf j) row i (omega arith) (omega arith)) (sameRow table i j) refl
+      by (isDue terms table i j) (first-none j 0 (pairIf j) row i (omega arith) (omega arith))
     where
-      by : pairIf j i ≡ none → (b : Bool) → sameRow table i j ≡ b → EqualRows table i j
-      by here true same = sameRow-equal table i j .0 same
-      by here false other =
-          let found = rw (T-true (alike (kindAt terms i) (kindAt terms j)) similar, sameRows-equal table (inputsOf (kindAt terms i)) (inputsOf (kindAt terms j)) .1 inputs, other) at here in
-          let no-way : _≡_ {A = ℕ} 0 1 = cc in absurd (omega arith)
+      by : (b : Bool) → _≡_ {A = Option Pair} (cond b (some (record { left = i; right = j })) none) none → b ≡ false
+      by true found = let no-way : _≡_ {A = ℕ} 0 1 = cc in absurd (omega arith)
+      by false nothing = refl
+
+  -- Then the table is closed.
+  pub due-none : due terms table ≡ none → Closed terms table
+  unfolding isDue Closed
+  due-none h i j before below similar inputs = by (sameRow table i j) refl
+    where
+      by : (b : Bool) → sameRow table i j ≡ b → EqualRows table i j
+      by true same = sameRow-equal table i j .0 same
+      by false other =
+          let no = rw (T-true (alike (kindAt terms i) (kindAt terms j)) similar, sameRows-equal table (inputsOf (kindAt terms i)) (inputsOf (kindAt terms j)) .1 inputs, other) at (none-due h i j before below) in
+          absurd (true≢false no)

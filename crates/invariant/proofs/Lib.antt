@@ -3,6 +3,7 @@ pub mod Close
 pub mod Count
 pub mod Due
 pub mod Granted
+pub mod Keeps
 pub mod Lin
 pub mod Merge
 pub mod Pivot

@@ -27,6 +27,7 @@ use Rattle.run.specs.Merge.{State}
 use Rattle.invariant.specs.Rows.{EqualRows, solvedForm}
 use Rattle.invariant.specs.Invariant.{OneToOne, Equates, Unsolved, Lower, isUnknown, isSolved, count, Invariant}
 use Rattle.invariant.proofs.Count.{count-one-more}
+use Rattle.invariant.proofs.Keeps.{folds-equal}
 use Rattle.invariant.proofs.Lin.{lin-congruent, lin-commutes, fold-linear}
 use Rattle.invariant.proofs.Pivot.{Pivot, pivot-highest}
 use Rattle.invariant.proofs.Solved.{unsolved-not-counted, lower-counted, known-not-counted}
@@ -70,8 +71,7 @@ module _ (rank : ℕ → ℕ) (terms : List Term) (inForce met : List Pair) (sta
 
   -- F3: rows that are equal stay equal.
   pub solve-equal : (i j : ℕ) → EqualRows (state .table) i j → EqualRows (after .table) i j
-  solve-equal i j same c inside =
-      solves .folds i c inside ∙ fold-equal p c form form (cell (state .table) i) (cell (state .table) j) refl (same p p-column) (same c inside) ∙ sym (solves .folds j c inside)
+  solve-equal = folds-equal p form (state .table) (after .table) p-column (solves .folds)
 
   -- F4: the two rows become equal.
   pub solve-meets : EqualRows (after .table) t u

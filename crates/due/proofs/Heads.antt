@@ -1,5 +1,5 @@
 -- Lookups as numbers: heads tell functions apart, and three places hold the inputs.
--- Main results: `no-lookup`, `one-head`, `due-alike`, `due-unlike`, `inputs-below`. Assume nothing.
+-- Main results: `no-lookup`, `one-head`, `inputs-below`, `due-alike`, `due-unlike`, `alike-due`, `due-heads`. Assume nothing.
 use mathlib.Core.Path.{_≡_, refl, sym, ap, ap₂, _∙_, subst}
 use mathlib.Core.Bool.{Bool, true, false, not, _&&_, false≢true, and-eq-true-iff, and-true}
 use mathlib.Core.List.{List, [], _∷_}
@@ -133,3 +133,19 @@ module _ (terms : List Term) (n : ℕ) (heads inputs : List ℕ) (lookups : Look
   pub due-unlike : alike (kindAt terms i) (kindAt terms j) ≡ false → isDue terms table i j ≡ false
   unfolding isDue
   due-unlike e = rw e
+
+  pub alike-due : isDue terms table i j ≡ true → alike (kindAt terms i) (kindAt terms j) ≡ true
+  alike-due is = by (alike (kindAt terms i) (kindAt terms j)) refl
+    where
+      by : (b : Bool) → alike (kindAt terms i) (kindAt terms j) ≡ b → b ≡ true
+      by true similar = refl
+      by false other = absurd (false≢true (sym (due-unlike other) ∙ is))
+
+  -- A pair that is due has one head, and it is not 0.
+  pub due-heads : isDue terms table i j ≡ true → (getD heads j 0 ≡ 0 → ⊥) × (getD heads i 0 ≡ getD heads j 0)
+  due-heads is =
+      let left = kindAt terms i in
+      let right = kindAt terms j in
+      let lookup : headOf left ≡ 0 → ⊥ = λ none. false≢true (sym (no-lookup left right none) ∙ alike-due is) in
+      let one : headOf left ≡ headOf right = eqb-true (headOf left) (headOf right) (one-head left right (lookups .symbols i p) (lookups .symbols j q) lookup ∙ alike-due is) in
+      (λ none. lookup (one ∙ sym (lookups .calls .head j q) ∙ none), lookups .calls .head i p ∙ one ∙ sym (lookups .calls .head j q))

@@ -1,4 +1,6 @@
 pub mod Heads
+pub mod Passed
 pub mod Search
 pub mod Shown
 pub mod Unique
+pub mod Woken

@@ -1,15 +1,18 @@
 -- Looking for the first number for which something is given, one by one.
--- Main results: `first-passed`, `first-found`, `first-over`, `pair-given`. Assume nothing.
-use mathlib.Core.Path.{_≡_, ap, _∙_}
+-- Main results: `first-passed`, `first-found`, `first-over`, `first-skips`, `first-nowhere`, `pair-given`, `due-searched`, `left-searched`. Assume nothing.
+use mathlib.Core.Path.{_≡_, sym, ap, _∙_}
 use mathlib.Core.Bool.{Bool, cond}
 use mathlib.Core.List.{List}
 use mathlib.Core.Option.{Option, some, none}
-use Prim.Native.Nat.{ℕ, suc, _+_, _-_, _<_, _≤_}
+use Prim.Native.Nat.{ℕ, zero, suc, _+_, _-_, _<_, _≤_}
+use native.Mathlib.Nat.{add-zero, sub-zero}
+use native.Mathlib.Decide.{decLt}
 use native.Mathlib.Omega.{arith}
+use lib.ListN.{length}
 use Rattle.problem.specs.declared.Term.{Term}
 use Rattle.run.specs.Row.{Table}
-use Rattle.run.specs.Close.{isDue, first}
-use Rattle.due.specs.Found.{pairFor}
+use Rattle.run.specs.Close.{isDue, first, due}
+use Rattle.due.specs.Found.{pairFor, leftFor}
 
 module _ {A : Type 0} (g : ℕ → Option A) (end i : ℕ) where
   opened : (given : Option A) → i < end → g i ≡ given → first (end - i) i g ≡ elim given [ none ↦ first (end - (i + 1)) (suc i) g | some a ↦ some a ]
@@ -31,7 +34,37 @@ module _ {A : Type 0} (g : ℕ → Option A) (end i : ℕ) where
   unfolding first
   first-over over = let empty : end - i ≡ 0 = omega arith in rw empty
 
+module _ {A : Type 0} (g : ℕ → Option A) (end : ℕ) where
+  skips-by : (gap i : ℕ) → ((k : ℕ) → i ≤ k → k < i + gap → k < end → g k ≡ none) → first (end - i) i g ≡ first (end - (i + gap)) (i + gap) g
+  skips-by zero i nothing = rw add-zero
+  skips-by (suc gap) i nothing =
+      let on : i + 1 + gap ≡ i + suc gap = omega arith in
+      by (decLt i end) (skips-by gap (i + 1) (λ k above short low. nothing k (omega arith) (omega arith) low) ∙ ap (λ k. first (end - k) k g) on)
+    where
+      by : Dec (i < end) → first (end - (i + 1)) (i + 1) g ≡ first (end - (i + suc gap)) (i + suc gap) g → first (end - i) i g ≡ first (end - (i + suc gap)) (i + suc gap) g
+      by (yes below) later = first-passed g end i below (nothing i (omega arith) (omega arith) below) ∙ later
+      by (no over) later = first-over g end i (omega arith) ∙ sym (first-over g end (i + suc gap) (omega arith))
+
+  -- Numbers that give nothing are passed at once.
+  pub first-skips : (i on : ℕ) → i ≤ on → ((k : ℕ) → i ≤ k → k < on → k < end → g k ≡ none) → first (end - i) i g ≡ first (end - on) on g
+  first-skips i on forward nothing =
+      let there : i + (on - i) ≡ on = omega arith in
+      skips-by (on - i) i (λ k above short low. nothing k above (omega arith) low) ∙ ap (λ k. first (end - k) k g) there
+
+  -- Where no number gives anything nothing is found.
+  pub first-nowhere : ((k : ℕ) → k < end → g k ≡ none) → first (end - 0) 0 g ≡ none
+  first-nowhere nothing = first-skips 0 end (omega arith) (λ k above short low. nothing k low) ∙ first-over g end end (omega arith)
+
 -- The pair i, j is given exactly if it is due.
 pub pair-given : (terms : List Term) (table : Table) (j i : ℕ) (test : Bool) → test ≡ isDue terms table i j → pairFor terms table j i ≡ cond test (some (record { left = i; right = j })) none
 unfolding pairFor
 pair-given terms table j i test e = rw e
+
+-- The searches of the rules, from their first number on.
+pub left-searched : (terms : List Term) (table : Table) (j : ℕ) → leftFor terms table j ≡ first (j - 0) 0 (pairFor terms table j)
+unfolding leftFor
+left-searched terms table j = rw sub-zero
+
+pub due-searched : (terms : List Term) (table : Table) (n : ℕ) → length terms ≡ n → due terms table ≡ first (n - 0) 0 (leftFor terms table)
+unfolding due leftFor pairFor
+due-searched terms table n count = rw (count, sub-zero)

@@ -1,16 +1,26 @@
--- A problem of three terms, and the numbers that hold its lookups.
--- Main results: `shown-lookups`, `shown-inputs`. Assume nothing.
-use mathlib.Core.Path.{_≡_, refl, sym, _∙_}
+-- A problem of three terms, the numbers that hold its lookups, and sets that link them.
+-- Main results: `shown-lookups`, `shown-inputs`, `shown-linked`, `shown-awake`. Assume nothing.
+use mathlib.Core.Path.{_≡_, refl, sym, ap, _∙_}
+use mathlib.Core.Bool.{true}
 use mathlib.Core.List.{List, [], _∷_}
 use Prim.Native.Nat.{ℕ, zero, suc, _+_, _*_, _<_}
 use native.Mathlib.Omega.{arith}
 use lib.ListN.{getD, replicate, getD-replicate}
+use Rattle.bits.specs.Sets.{holds}
+use Rattle.bits.proofs.Digits.{holds-all}
 use Rattle.problem.specs.declared.Kind.the-variants.{Variable, Lookup1}
 use Rattle.problem.specs.declared.Term.{Term}
 use Rattle.problem.specs.Lookup.{callOf, inputsOf, kindAt}
+use Rattle.run.specs.Row.{Table}
 use Rattle.table.specs.Calls.{headOf, inputOf, Calls}
-use Rattle.due.specs.Found.{symbolOf, Lookups, InputsBelow}
+use Rattle.table.specs.Sparse.{usersOf, earlierOf, pendingOf, Linked}
+use Rattle.due.specs.Found.{symbolOf, Lookups, InputsBelow, Awake}
 use Rattle.due.proofs.Heads.{inputs-below}
+use Rattle.due.proofs.Woken.{pending-awake}
+
+-- sets that hold every number
+abbrev sets : List ℕ
+sets = replicate 193 18446744073709551615
 
 -- a variable, and lookup 7 of it twice
 abbrev terms : List Term
@@ -55,3 +65,18 @@ shown-lookups =
 
 pub shown-inputs : InputsBelow 3 inputs
 shown-inputs = inputs-below (shown-lookups .calls) (λ t i p q. omega (arith, input-zero t i p))
+
+holds-each : (k i : ℕ) → k < 193 → i < 64 → holds (getD sets k 0) i ≡ true
+holds-each k i place below = ap (λ set. holds set i) (getD-replicate 193 k 18446744073709551615 0 place) ∙ holds-all i below
+
+pub shown-linked : Linked 3 heads inputs sets
+unfolding usersOf earlierOf
+shown-linked =
+    record {
+      users = λ j k below place lookup. let input = shown-inputs .below j k below place in holds-each (64 + getD inputs (3 * j + k) 0) j (omega arith) (omega arith);
+      earlier = λ i j before below lookup one. holds-each (128 + j) i (omega arith) (omega arith);
+    }
+
+pub shown-awake : (table : Table) → Awake terms 3 table sets
+unfolding pendingOf
+shown-awake table = pending-awake terms 3 table (omega arith) (λ k below. holds-each 192 k (omega arith) below)

@@ -1,11 +1,13 @@
 -- The search for the pair due, on lookups as numbers.
--- Main definitions: `symbolOf`, `Lookups`, `InputsBelow`, `sameInputs`, `leftFor`, `pairOf`, `Below`. Assumes nothing.
+-- Main definitions: `symbolOf`, `Lookups`, `InputsBelow`, `sameInputs`, `leftFor`, `pairOf`, `Below`, `Awake`. Assumes nothing.
 use mathlib.Core.Path.{_≡_}
-use mathlib.Core.Bool.{Bool, cond, _&&_}
+use mathlib.Core.Logic.{_⊎_}
+use mathlib.Core.Bool.{Bool, true, cond, _&&_}
 use mathlib.Core.List.{List}
 use mathlib.Core.Option.{Option, some, none}
 use Prim.Native.Nat.{ℕ, _+_, _*_, _<_}
 use lib.ListN.{length, getD}
+use Rattle.bits.specs.Sets.{holds}
 use Rattle.problem.specs.declared.Kind.{Kind}
 use Rattle.problem.specs.declared.Term.{Term}
 use Rattle.problem.specs.Lookup.{callOf, kindAt}
@@ -13,6 +15,7 @@ use Rattle.problem.specs.Problem.{Pair}
 use Rattle.run.specs.Row.{Table, sameRow}
 use Rattle.run.specs.Close.{isDue, first}
 use Rattle.table.specs.Calls.{Calls}
+use Rattle.table.specs.Sparse.{pendingOf}
 use Rattle.due.specs.declared.Due.{Due}
 use Rattle.due.specs.declared.Due.the-variants.{Pair as Found, Closed}
 
@@ -55,3 +58,7 @@ pairOf Closed = none
 unfoldable pub Below : (n : ℕ) → Due → Type 0
 Below n (Found left right) = (left < right) × (right < n)
 Below n Closed = Unit {0}
+
+-- Of every pair that is due one side is pending: an input row of it has changed since closing found no pair due.
+pub record Awake (terms : List Term) (n : ℕ) (table : Table) (sets : List ℕ) : Type 0 where
+  pub found : (i j : ℕ) → i < j → j < n → isDue terms table i j ≡ true → (holds (pendingOf sets) i ≡ true) ⊎ (holds (pendingOf sets) j ≡ true)

@@ -1,16 +1,22 @@
-// The next pair of lookups that closing merges.
+// The next pair of lookups that closing merges. A pair is looked at only where its lookups are of one function and one of them is
+// pending: an input row of it has changed since closing last found no pair due.
 use same::same_row;
+use table::EARLIER;
+use table::PENDING;
 ghost use mathlib.Core.Path.{_≡_};
+ghost use mathlib.Core.Bool.{_&&_, _||_};
 ghost use mathlib.Core.List.{List};
-ghost use Prim.Native.Nat.{_+_, _*_, _<_, _≤_};
+ghost use Prim.Native.Nat.{ℕ, _+_, _*_, _<_, _≤_};
 ghost use lib.ListN.{length, getD};
+ghost use Rattle.bits.specs.Sets.{holds};
 ghost use Rattle.problem.specs.declared.Kind.{Kind};
 ghost use Rattle.problem.specs.declared.Term.{Term};
 ghost use Rattle.problem.specs.Lookup.{alike};
 ghost use Rattle.run.specs.Close.{isDue, due};
 ghost use Rattle.table.specs.Calls.{headOf};
 ghost use Rattle.table.specs.Held.{tableAt, SoundTo};
-ghost use Rattle.due.specs.Found.{symbolOf, Lookups, InputsBelow, sameInput, sameInputs, leftFor, pairOf, Below};
+ghost use Rattle.table.specs.Sparse.{earlierOf, pendingOf, Linked};
+ghost use Rattle.due.specs.Found.{symbolOf, Lookups, InputsBelow, sameInput, sameInputs, leftFor, pairOf, Below, Awake};
 
 // The pair due, of the smallest right and then the smallest left; or none is.
 pub enum Due {
@@ -93,38 +99,73 @@ fn is_due(
     !same_row(nums, dens, n, i, j)
 }
 
+// The lookups before j that j is compared with: those of its function, all of them if j is pending, else those that are.
+fn candidates(sets: &[u64], j: usize) -> u64
+    requires { ⌜ (j < 64) × (193 ≤ length (now sets)) ⌝ }
+    ensures { λ r. ⌜ ((i : ℕ) → holds r i ≡ (holds (earlierOf (now (sets .entry)) j) i && (holds (pendingOf (now (sets .entry))) i || holds (pendingOf (now (sets .entry))) j))) ⌝ }
+{
+    let earlier = sets[EARLIER + j];
+    let pending = sets[PENDING];
+    if bits::has(pending, j) {
+        return earlier;
+    }
+    bits::common(earlier, pending)
+}
+
 // The pair due of right side j with the smallest left side.
-fn left_due(nums: &[i32], dens: &[i32], n: usize, heads: &[u16], inputs: &[u8], j: usize) -> Due
+fn left_due(
+    nums: &[i32],
+    dens: &[i32],
+    n: usize,
+    heads: &[u16],
+    inputs: &[u8],
+    sets: &[u64],
+    j: usize,
+) -> Due
     requires { ⌜ (j < n) × (n ≤ 64) ⌝ }
     requires { ⌜ (4160 ≤ length (now nums)) × (4160 ≤ length (now dens)) ⌝ }
-    requires { ⌜ (64 ≤ length (now heads)) × (192 ≤ length (now inputs)) ⌝ }
+    requires { ⌜ (64 ≤ length (now heads)) × (192 ≤ length (now inputs)) × (193 ≤ length (now sets)) ⌝ }
     requires { ⌜ SoundTo (65 * n) (now nums) (now dens) ⌝ }
     requires { ⌜ InputsBelow n (now inputs) ⌝ }
-    ensures { λ r. ⌜ ((terms : List Term) → Lookups terms n (now (heads .entry)) (now (inputs .entry)) → leftFor terms (tableAt n (now (nums .entry)) (now (dens .entry))) j ≡ pairOf r) ⌝ }
+    requires { ⌜ Linked n (now heads) (now inputs) (now sets) ⌝ }
+    ensures { λ r. ⌜ ((terms : List Term) → Lookups terms n (now (heads .entry)) (now (inputs .entry)) → Awake terms n (tableAt n (now (nums .entry)) (now (dens .entry))) (now (sets .entry)) → leftFor terms (tableAt n (now (nums .entry)) (now (dens .entry))) j ≡ pairOf r) ⌝ }
     ensures { λ r. ⌜ Below n r ⌝ }
 {
-    let mut i: usize = 0;
+    let lefts = candidates(sets, j);
+    let mut i = bits::next(lefts, 0);
     while i < j {
         if is_due(nums, dens, n, heads, inputs, i, j) {
             return Due::Pair { left: i, right: j };
         }
-        i += 1;
+        i = bits::next(lefts, i + 1);
     }
     Due::Closed
 }
 
-pub fn find_due(nums: &[i32], dens: &[i32], n: usize, heads: &[u16], inputs: &[u8]) -> Due
+// The pair due, where one side of every pair due is pending.
+pub fn find_due(
+    nums: &[i32],
+    dens: &[i32],
+    n: usize,
+    heads: &[u16],
+    inputs: &[u8],
+    sets: &[u64],
+) -> Due
     requires { ⌜ n ≤ 64 ⌝ }
     requires { ⌜ (4160 ≤ length (now nums)) × (4160 ≤ length (now dens)) ⌝ }
-    requires { ⌜ (64 ≤ length (now heads)) × (192 ≤ length (now inputs)) ⌝ }
+    requires { ⌜ (64 ≤ length (now heads)) × (192 ≤ length (now inputs)) × (193 ≤ length (now sets)) ⌝ }
     requires { ⌜ SoundTo (65 * n) (now nums) (now dens) ⌝ }
     requires { ⌜ InputsBelow n (now inputs) ⌝ }
-    ensures { λ r. ⌜ ((terms : List Term) → Lookups terms n (now (heads .entry)) (now (inputs .entry)) → due terms (tableAt n (now (nums .entry)) (now (dens .entry))) ≡ pairOf r) ⌝ }
+    requires { ⌜ Linked n (now heads) (now inputs) (now sets) ⌝ }
+    ensures { λ r. ⌜ ((terms : List Term) → Lookups terms n (now (heads .entry)) (now (inputs .entry)) → Awake terms n (tableAt n (now (nums .entry)) (now (dens .entry))) (now (sets .entry)) → due terms (tableAt n (now (nums .entry)) (now (dens .entry))) ≡ pairOf r) ⌝ }
     ensures { λ r. ⌜ Below n r ⌝ }
 {
+    if sets[PENDING] == 0 {
+        return Due::Closed;
+    }
     let mut j: usize = 0;
     while j < n {
-        match left_due(nums, dens, n, heads, inputs, j) {
+        match left_due(nums, dens, n, heads, inputs, sets, j) {
             Due::Pair { left, right } => return Due::Pair { left, right },
             Due::Closed => j += 1,
         }

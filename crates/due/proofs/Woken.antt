@@ -1,0 +1,99 @@
+-- When a pair that is due has a pending side: after closing, after a step that wakes the users of the rows it changes, and at the start.
+-- Main results: `closed-sleeps`, `pending-awake`, `stirred-awake`, `linked-kept`. Assume nothing.
+use mathlib.Core.Path.{_≡_, refl, sym, ap, ap₂, _∙_}
+use mathlib.Core.Logic.{_⊎_, inl, inr}
+use mathlib.Core.Bool.{Bool, true, false, not, _&&_, false≢true, and-eq-true-iff}
+use mathlib.Core.List.{List}
+use mathlib.Core.Option.{none}
+use Prim.Native.Nat.{ℕ, _+_, _*_, _<_, _≤_}
+use native.Mathlib.Omega.{arith}
+use lib.ListN.{length, getD}
+use lib.IntN.{ℤ}
+use borrow.Author.Tests.{not-true}
+use Rattle.bits.specs.Sets.{holds}
+use Rattle.problem.specs.declared.Term.{Term}
+use Rattle.problem.specs.Lookup.{alike, kindAt}
+use Rattle.run.specs.Row.{Table, COLUMNS, sameTo, sameRow}
+use Rattle.run.specs.Close.{isDue, due}
+use Rattle.invariant.proofs.Due.{none-due}
+use Rattle.table.specs.Held.{rowAt, tableAt}
+use Rattle.table.specs.Sparse.{usersOf, earlierOf, pendingOf, Linked, Stirred}
+use Rattle.same.proofs.Equal.{same-rows}
+use Rattle.due.specs.Found.{Lookups, InputsBelow, sameInput, sameInputs, Awake}
+use Rattle.due.proofs.Heads.{due-alike, alike-due, due-heads}
+
+-- Where no pair is due, nothing has to be pending.
+pub closed-sleeps : {terms : List Term} {n : ℕ} {table : Table} → length terms ≡ n → due terms table ≡ none → (sets : List ℕ) → Awake terms n table sets
+closed-sleeps {terms} {n} {table} count closed sets =
+    record { found = λ i j before below is. absurd (false≢true (sym (none-due terms table closed i j before (omega arith)) ∙ is)) }
+
+-- Where every lookup is pending, both sides of a pair are.
+pub pending-awake : (terms : List Term) (n : ℕ) (table : Table) {sets : List ℕ} → n ≤ 64 → ((k : ℕ) → k < 64 → holds (pendingOf sets) k ≡ true) → Awake terms n table sets
+pending-awake terms n table small all = record { found = λ i j before below is. inl (all i (omega arith)) }
+
+-- The links are those of the places 64 to 191.
+pub linked-kept : {n : ℕ} {heads inputs sets₀ sets : List ℕ} → n ≤ 64 → InputsBelow n inputs → ((k : ℕ) → 64 ≤ k → k < 192 → getD sets k 0 ≡ getD sets₀ k 0) → Linked n heads inputs sets₀ → Linked n heads inputs sets
+unfolding usersOf earlierOf
+linked-kept {n} {heads} {inputs} {sets₀} {sets} small inputs-below links linked =
+    record {
+      users = λ j k below place lookup.
+          let input = inputs-below .below j k below place in
+          ap (λ set. holds set j) (links (64 + getD inputs (3 * j + k) 0) (omega arith) (omega arith)) ∙ linked .users j k below place lookup;
+      earlier = λ i j before below lookup one.
+          ap (λ set. holds set i) (links (128 + j) (omega arith) (omega arith)) ∙ linked .earlier i j before below lookup one;
+    }
+
+module _ {terms : List Term} {n : ℕ} {heads inputs : List ℕ} {nums₀ dens₀ nums dens : List ℤ} {sets₀ sets : List ℕ}
+    (lookups : Lookups terms n heads inputs) (inputs-below : InputsBelow n inputs) (linked : Linked n heads inputs sets₀)
+    (stirred : Stirred n nums₀ dens₀ nums dens sets₀ sets) where
+  -- An input row of a lookup that is not pending is as it was.
+  input-stays : (j k : ℕ) → j < n → k < 3 → (getD heads j 0 ≡ 0 → ⊥) → holds (pendingOf sets) j ≡ false → rowAt nums dens (65 * getD inputs (3 * j + k) 0) ≡ rowAt nums₀ dens₀ (65 * getD inputs (3 * j + k) 0)
+  input-stays j k below place lookup asleep = by (stirred .woken (getD inputs (3 * j + k) 0) (inputs-below .below j k below place))
+    where
+      by : (rowAt nums dens (65 * getD inputs (3 * j + k) 0) ≡ rowAt nums₀ dens₀ (65 * getD inputs (3 * j + k) 0)) ⊎ ((l : ℕ) → holds (usersOf sets₀ (getD inputs (3 * j + k) 0)) l ≡ true → holds (pendingOf sets) l ≡ true) → rowAt nums dens (65 * getD inputs (3 * j + k) 0) ≡ rowAt nums₀ dens₀ (65 * getD inputs (3 * j + k) 0)
+      by (inl same) = same
+      by (inr woken) = absurd (false≢true (sym asleep ∙ woken j (linked .users j k below place lookup)))
+
+  module _ (i j : ℕ) (p : i < n) (q : j < n) (left : getD heads i 0 ≡ 0 → ⊥) (right : getD heads j 0 ≡ 0 → ⊥)
+      (left-asleep : holds (pendingOf sets) i ≡ false) (right-asleep : holds (pendingOf sets) j ≡ false) where
+    input-same : (k : ℕ) → k < 3 → sameInput (tableAt n nums dens) inputs i j k ≡ sameInput (tableAt n nums₀ dens₀) inputs i j k
+    unfolding sameInput
+    input-same k place =
+        let t = getD inputs (3 * i + k) 0 in
+        let u = getD inputs (3 * j + k) 0 in
+        let t-below = inputs-below .below i k p place in
+        let u-below = inputs-below .below j k q place in
+        same-rows n nums dens t u t-below u-below
+        ∙ ap₂ (sameTo COLUMNS) (input-stays i k p place left left-asleep) (input-stays j k q place right right-asleep)
+        ∙ sym (same-rows n nums₀ dens₀ t u t-below u-below)
+
+    inputs-same : sameInputs (tableAt n nums dens) inputs i j ≡ sameInputs (tableAt n nums₀ dens₀) inputs i j
+    unfolding sameInputs
+    inputs-same = rw (input-same 0 (omega arith), input-same 1 (omega arith), input-same 2 (omega arith))
+
+  -- A step that wakes the users of each row that it changes, and leaves equal rows equal, makes no other pair due.
+  pub stirred-awake : ((t u : ℕ) → t < n → u < n → sameRow (tableAt n nums₀ dens₀) t u ≡ true → sameRow (tableAt n nums dens) t u ≡ true) → Awake terms n (tableAt n nums₀ dens₀) sets₀ → Awake terms n (tableAt n nums dens) sets
+  stirred-awake stay awake = record { found = λ i j before below is. by i j before below is (holds (pendingOf sets) i) refl (holds (pendingOf sets) j) refl }
+    where
+      -- a pair that was due has a side that is pending still
+      remembered : (i j : ℕ) → (holds (pendingOf sets₀) i ≡ true) ⊎ (holds (pendingOf sets₀) j ≡ true) → (holds (pendingOf sets) i ≡ true) ⊎ (holds (pendingOf sets) j ≡ true)
+      remembered i j (inl was) = inl (stirred .remembered i was)
+      remembered i j (inr was) = inr (stirred .remembered j was)
+
+      -- the pair was due before unless its own rows were equal, and then they still are
+      own : (i j : ℕ) → i < j → j < n → alike (kindAt terms i) (kindAt terms j) ≡ true → sameInputs (tableAt n nums₀ dens₀) inputs i j ≡ true → sameRow (tableAt n nums dens) i j ≡ false → (b : Bool) → sameRow (tableAt n nums₀ dens₀) i j ≡ b → (holds (pendingOf sets) i ≡ true) ⊎ (holds (pendingOf sets) j ≡ true)
+      own i j before below similar inputs-equal unequal true was = absurd (false≢true (sym unequal ∙ stay i j (omega arith) below was))
+      own i j before below similar inputs-equal unequal false was =
+          remembered i j (awake .found i j before below (due-alike terms n heads inputs lookups (tableAt n nums₀ dens₀) i j (omega arith) below similar ∙ ap₂ (λ a b. a && not b) inputs-equal was))
+
+      by : (i j : ℕ) → i < j → j < n → isDue terms (tableAt n nums dens) i j ≡ true → (a : Bool) → holds (pendingOf sets) i ≡ a → (b : Bool) → holds (pendingOf sets) j ≡ b → (holds (pendingOf sets) i ≡ true) ⊎ (holds (pendingOf sets) j ≡ true)
+      by i j before below is true left b right = inl left
+      by i j before below is false left true right = inr right
+      by i j before below is false left false right =
+          let table = tableAt n nums dens in
+          let first : i < n = omega arith in
+          let similar = alike-due terms n heads inputs lookups table i j first below is in
+          let one = due-heads terms n heads inputs lookups table i j first below is in
+          let parts = and-eq-true-iff (sameInputs table inputs i j) (not (sameRow table i j)) .0 (sym (due-alike terms n heads inputs lookups table i j first below similar) ∙ is) in
+          let same = inputs-same i j first below (λ none. one .0 (sym (one .1) ∙ none)) (one .0) left right in
+          own i j before below similar (sym same ∙ parts .0) (not-true (sameRow table i j) (parts .1)) (sameRow (tableAt n nums₀ dens₀) i j) refl

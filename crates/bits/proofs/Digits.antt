@@ -1,12 +1,12 @@
 -- What the operations on bits leave in a set.
--- Main results: `holds-and`, `holds-or`, `holds-xor`, `holds-one`, `holds-none`, `holds-all`, `sets-equal`. Assume nothing.
+-- Main results: `holds-and`, `holds-or`, `holds-xor`, `holds-one`, `holds-none`, `holds-below`, `holds-beyond`, `holds-all`, `holds-shifted`. Assume nothing.
 use mathlib.Core.Path.{_≡_, refl, sym, ap, ap₂, _∙_}
 use mathlib.Core.Bool.{Bool, true, false, not, _&&_, _||_, or-comm}
-use Prim.Native.Nat.{ℕ, zero, suc, _+_, _-_, _*_, _/_, _%_, _^_, _<_, min, max}
-use native.Mathlib.Nat.{pow-suc, pow-succ', div-one, div-div-eq-div-mul, zero-div, mod-lt, mul-add-mod-self-right, mul-div-cancel, mul-mod-left, one-mul, zero-add, suc-add}
+use Prim.Native.Nat.{ℕ, zero, suc, _+_, _-_, _*_, _/_, _%_, _^_, _<_, _≤_, min, max}
+use native.Mathlib.Nat.{pow-suc, pow-succ', div-one, div-div-eq-div-mul, zero-div, div-eq-of-lt, mod-lt, mul-add-mod-self-right, mul-div-cancel, mul-mod-left, one-mul, zero-add, suc-add}
 use native.Mathlib.Omega.{arith}
 use lib.Dec.{eqb, eqb·zero-suc, eqb·suc-zero, eqb·suc-suc}
-use lib.Pow.{pow-pos, shl-exact}
+use lib.Pow.{pow-pos, pow-mono, shl-exact}
 use lib.Bits.{bitAnd, bitOr, bitXor, differ, and-step, or-step, xor-step, and-shr, or-shr, xor-shr}
 use Rattle.bits.specs.Sets.{holds}
 
@@ -91,10 +91,14 @@ holds-one (suc i) (suc k) =
     holds-suc (2 ^ suc i) k ∙ ap (λ x. holds x k) (ap (λ x. x / 2) (pow-suc 2 i) ∙ mul-div-cancel (2 ^ i) (omega arith))
     ∙ holds-one i k ∙ sym (eqb·suc-suc k i)
 
+-- The set of one number, as the code makes it.
+pub one-shifted : (i : ℕ) → i < 64 → (1 * 2 ^ i) % 2 ^ 64 ≡ 2 ^ i
+one-shifted i small = shl-exact {a = 1} 1 i 64 (omega arith) (omega arith) ∙ one-mul (2 ^ i)
+
 -- The set and one number more, as the code makes it.
 pub holds-with : (set i : ℕ) → i < 64 → (k : ℕ) → holds (bitOr set ((1 * 2 ^ i) % 2 ^ 64)) k ≡ (eqb k i || holds set k)
 holds-with set i small k =
-    ap (λ x. holds (bitOr set x) k) (shl-exact {a = 1} 1 i 64 (omega arith) (omega arith) ∙ one-mul (2 ^ i))
+    ap (λ x. holds (bitOr set x) k) (one-shifted i small)
     ∙ holds-or set (2 ^ i) k ∙ or-comm (holds set k) (holds (2 ^ i) k) ∙ ap (λ b. b || holds set k) (holds-one i k)
 
 taken-out : (b c : Bool) → one-of (b || c) b ≡ (not b && c)
@@ -106,9 +110,8 @@ taken-out false false = refl
 -- The set without one number, as the code makes it.
 pub holds-without : (set i : ℕ) → i < 64 → (k : ℕ) → holds (bitXor (bitOr set ((1 * 2 ^ i) % 2 ^ 64)) ((1 * 2 ^ i) % 2 ^ 64)) k ≡ (not (eqb k i) && holds set k)
 holds-without set i small k =
-    let one : (1 * 2 ^ i) % 2 ^ 64 ≡ 2 ^ i = shl-exact {a = 1} 1 i 64 (omega arith) (omega arith) ∙ one-mul (2 ^ i) in
     holds-xor (bitOr set ((1 * 2 ^ i) % 2 ^ 64)) ((1 * 2 ^ i) % 2 ^ 64) k
-    ∙ ap₂ one-of (holds-with set i small k) (ap (λ x. holds x k) one ∙ holds-one i k)
+    ∙ ap₂ one-of (holds-with set i small k) (ap (λ x. holds x k) (one-shifted i small) ∙ holds-one i k)
     ∙ taken-out (eqb k i) (holds set k)
 
 -- The set of all numbers below `count`.
@@ -127,6 +130,14 @@ holds-below (suc count) (suc k) h =
   where
     half : (p q : ℕ) → 0 < p → q ≡ p * 2 → (q - 1) / 2 ≡ p - 1
     half p q h e = omega arith
+
+-- A set of numbers below `count` holds none from there on.
+pub holds-beyond : (set count k : ℕ) → set < 2 ^ count → count ≤ k → holds set k ≡ false
+unfolding holds
+holds-beyond set count k small beyond =
+    let reach : 2 ^ count ≤ 2 ^ k = pow-mono beyond in
+    let less : set < 2 ^ k = omega arith in
+    ap (λ x. eqb (x % 2) 1) (div-eq-of-lt less)
 
 -- The set `ALL` holds every number below 64.
 pub holds-all : (k : ℕ) → k < 64 → holds 18446744073709551615 k ≡ true

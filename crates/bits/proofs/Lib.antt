@@ -2,3 +2,4 @@ pub mod Digits
 pub mod Lowest
 pub mod Unique
 pub mod Onward
+pub mod Downward

@@ -1,19 +1,12 @@
 -- The least number of a set from one number on.
 -- Main results: `none-beyond`, `none-left`, `found-onward`. Assume nothing.
 use mathlib.Core.Path.{_≡_, sym, ap, _∙_}
-use mathlib.Core.Bool.{true, false, false≢true}
+use mathlib.Core.Bool.{false≢true}
 use Prim.Native.Nat.{ℕ, _+_, _-_, _/_, _^_, _<_, _≤_}
-use native.Mathlib.Nat.{div-eq-of-lt}
 use native.Mathlib.Decide.{decLt}
 use native.Mathlib.Omega.{arith}
 use Rattle.bits.specs.Sets.{holds, Least, Next}
-use Rattle.bits.proofs.Digits.{holds-none, holds-shifted}
-
--- A number below 2^64 has no bit from 64 on.
-holds-beyond : (set k : ℕ) → 64 ≤ k → set < 2 ^ 64 → holds set k ≡ false
-holds-beyond set k beyond fits =
-    let there : k ≡ 64 + (k - 64) = omega arith in
-    ap (holds set) there ∙ sym (holds-shifted set 64 (k - 64)) ∙ ap (λ x. holds x (k - 64)) (div-eq-of-lt fits) ∙ holds-none (k - 64)
+use Rattle.bits.proofs.Digits.{holds-none, holds-beyond, holds-shifted}
 
 module _ (set from : ℕ) where
   -- From 64 on there is nothing below 64.
@@ -48,7 +41,7 @@ module _ (set from : ℕ) where
     where
       by : Dec (from + i < 64) → from + i < 64
       by (yes below) = below
-      by (no beyond) = absurd (false≢true (sym (holds-beyond set (from + i) (omega arith) fits) ∙ sym (holds-shifted set from i) ∙ least .inside))
+      by (no beyond) = absurd (false≢true (sym (holds-beyond set 64 (from + i) fits (omega arith)) ∙ sym (holds-shifted set from i) ∙ least .inside))
 
   -- The least of what is left.
   pub found-onward : set < 2 ^ 64 → (i : ℕ) → Least (set / 2 ^ from) i → Next set from (from + i)

@@ -2,12 +2,12 @@
 -- Main results: `sets-equal`, and by it a law NAME-unique for each public function NAME. Assume nothing.
 use mathlib.Core.Path.{_≡_, sym, _∙_}
 use mathlib.Core.Bool.{Bool, not, _&&_, _||_, true≢false}
-use Prim.Native.Nat.{ℕ, zero, suc, _/_, _%_, _^_, _<_}
+use Prim.Native.Nat.{ℕ, zero, suc, _-_, _/_, _%_, _^_, _<_}
 use native.Mathlib.Nat.{pow-suc}
 use native.Mathlib.Decide.{decLt}
 use native.Mathlib.Omega.{arith}
 use lib.Dec.{eqb}
-use Rattle.bits.specs.Sets.{holds, Next}
+use Rattle.bits.specs.Sets.{holds, Next, Last}
 use Rattle.bits.proofs.Digits.{holds-zero, holds-suc}
 
 -- Two bits that pass the test alike are equal.
@@ -57,4 +57,13 @@ next-unique set from r s first second = by (decLt r s) (decLt s r)
     by : Dec (r < s) → Dec (s < r) → r ≡ s
     by (yes low) _ = absurd (true≢false (sym (first .inside (omega (arith, second .most))) ∙ second .none-between r (first .forward) low))
     by (no _) (yes low) = absurd (true≢false (sym (second .inside (omega (arith, first .most))) ∙ first .none-between s (second .forward) low))
+    by (no l) (no u) = omega arith
+
+-- One number is one more than the greatest below an end.
+pub last-unique : (set end r s : ℕ) → Last set end r → Last set end s → r ≡ s
+last-unique set end r s first second = by (decLt r s) (decLt s r)
+  where
+    by : Dec (r < s) → Dec (s < r) → r ≡ s
+    by (yes low) _ = absurd (true≢false (sym (second .inside (omega arith)) ∙ first .none-between (s - 1) (omega arith) (omega (arith, second .backward))))
+    by (no _) (yes low) = absurd (true≢false (sym (first .inside (omega arith)) ∙ second .none-between (r - 1) (omega arith) (omega (arith, first .backward))))
     by (no l) (no u) = omega arith

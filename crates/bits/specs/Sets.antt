@@ -1,8 +1,8 @@
 -- Sets of numbers, each set as the bits of one number.
--- Main definitions: `holds`, `Least`, `Next`. Assume nothing.
+-- Main definitions: `holds`, `Least`, `Next`, `Last`. Assume nothing.
 use mathlib.Core.Path.{_≡_}
 use mathlib.Core.Bool.{Bool, true, false}
-use Prim.Native.Nat.{ℕ, _/_, _%_, _^_, _<_, _≤_}
+use Prim.Native.Nat.{ℕ, _-_, _/_, _%_, _^_, _<_, _≤_}
 use lib.Dec.{eqb}
 
 -- Whether number i is in the set: whether bit i of it is 1.
@@ -20,3 +20,9 @@ pub record Next (set from r : ℕ) : Type 0 where
   pub most : r ≤ 64
   pub none-between : (k : ℕ) → from ≤ k → k < r → holds set k ≡ false
   pub inside : r < 64 → holds set r ≡ true
+
+-- r is one more than the greatest number in the set below `end`, or 0, where there is none.
+pub record Last (set end r : ℕ) : Type 0 where
+  pub backward : r ≤ end
+  pub none-between : (k : ℕ) → r ≤ k → k < end → holds set k ≡ false
+  pub inside : 0 < r → holds set (r - 1) ≡ true

@@ -3,7 +3,7 @@ ghost use mathlib.Core.Path.{_≡_};
 ghost use mathlib.Core.Bool.{not, _&&_, _||_};
 ghost use Prim.Native.Nat.{ℕ, _<_, _≤_};
 ghost use lib.Dec.{eqb};
-ghost use Rattle.bits.specs.Sets.{holds, Least, Next};
+ghost use Rattle.bits.specs.Sets.{holds, Least, Next, Last};
 
 // The set of all numbers below 64.
 pub const ALL: u64 = 18446744073709551615;
@@ -67,4 +67,22 @@ pub fn next(set: u64, from: usize) -> usize
         return 64;
     }
     from + least(rest)
+}
+
+// One more than the greatest number of a set, or 0 of the empty set.
+fn top(set: u64) -> usize
+    ensures { λ r. ⌜ Last set 64 r ⌝ }
+{
+    64 - u64::leading_zeros(set) as usize
+}
+
+// One more than the greatest number of the set below an end, or 0 where there is none: a loop goes down from number to number by it.
+pub fn last(set: u64, end: usize) -> usize
+    requires { ⌜ end ≤ 64 ⌝ }
+    ensures { λ r. ⌜ Last set end r ⌝ }
+{
+    if end == 64 {
+        return top(set);
+    }
+    top(set & ((1 << end) - 1))
 }

@@ -1,4 +1,5 @@
 pub mod Answered
+pub mod Divided
 pub mod Linked
 pub mod Lowest
 pub mod Operations

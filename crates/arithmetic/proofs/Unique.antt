@@ -6,7 +6,7 @@ use native.Mathlib.Omega.{arith}
 use lib.IntN.{ℤ, pos}
 use Rattle.whole.specs.Gcd.{gcd}
 use Rattle.whole.specs.Signed.{signed}
-use Rattle.fraction.specs.Exact.{ℚ, frac, negℚ, value}
+use Rattle.fraction.specs.Exact.{ℚ, frac, negℚ, inverse, value}
 use Rattle.fraction.specs.Made as rule
 use Rattle.fraction.specs.Limits.{tested, plus, minus, times, over}
 use Rattle.fraction.specs.Made.{made, stopped}
@@ -53,6 +53,9 @@ quotient-unique a b r s p q = answers-unique p q
 
 pub negated-unique : (a : Fraction) (f g : Fraction) → Stands f (negℚ (value a)) → Stands g (negℚ (value a)) → f ≡ g
 negated-unique a f g p q = stands-unique p q
+
+pub inverted-unique : (a : Fraction) (f g : Fraction) → Stands f (inverse (value a)) → Stands g (inverse (value a)) → f ≡ g
+inverted-unique a f g p q = stands-unique p q
 
 pub lowered-unique : (a : Fraction) (f g : Fraction) → Stands f (value a) → Stands g (value a) → f ≡ g
 lowered-unique a f g p q = stands-unique p q

@@ -143,7 +143,7 @@ pub fn difference(a: Fraction, b: Fraction) -> Made
 }
 
 // 1 / a, and 0 for 0. A fraction in lowest terms stays so upside down.
-fn inverted(a: Fraction) -> Fraction
+pub fn inverted(a: Fraction) -> Fraction
     requires { ⌜ Good a ⌝ }
     ensures { λ r. ⌜ Stands r (inverse (value a)) ⌝ }
 {

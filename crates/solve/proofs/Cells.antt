@@ -1,36 +1,46 @@
--- One column of a solved form: what the rule makes of it.
--- Main results: `solved-column`, `cell-solved`, `cell-divided`, `cell-stops`. Assume nothing.
-use mathlib.Core.Path.{_≡_, refl, ap, _∙_}
-use mathlib.Core.Bool.{cond}
+-- One column of a difference and of a solved form: what the rule makes of it.
+-- Main results: `solved-column`, `cell-solved`, `cell-other`, `cell-nothing`, `differs-nothing`. Assume nothing.
+use mathlib.Core.Path.{_≡_, refl, sym, ap, _∙_}
+use mathlib.Core.Bool.{Bool, true, false, cond}
 use Prim.Native.Nat.{ℕ}
 use borrow.Author.Tests.{eq-eqb, ne-eqb}
-use Rattle.fraction.specs.Exact.{ℚ, zeroℚ, negℚ}
-use Rattle.fraction.specs.Limits.{over}
-use Rattle.fraction.specs.Made.{made, stopped, _>>=_}
+use lib.Dec.{eqb}
+use Rattle.fraction.specs.Exact.{ℚ, zeroℚ, negℚ, inverse}
+use Rattle.fraction.specs.Limits.{tested, minus, times}
+use Rattle.fraction.specs.Made.{made}
+use Rattle.fraction.proofs.Field.{minus-is-plus, plus-inverse, times-zero}
+use Rattle.arithmetic.proofs.Divided.{divided-negated}
+use Rattle.arithmetic.proofs.Tests.{zero-passes}
 use Rattle.run.specs.Row.{Row, column}
 use Rattle.run.specs.Merge.{solvedColumn}
 use Rattle.solve.specs.Cell.{solvedCell}
 
--- Column c of the rule's form is the cell of the two numbers that it reads.
-pub solved-column : (p : ℕ) (d : Row) (c : ℕ) → solvedColumn p d c ≡ solvedCell c p (column d p) (column d c)
+-- 0 minus 0 is 0.
+pub differs-nothing : minus zeroℚ zeroℚ ≡ made zeroℚ
+unfolding minus
+differs-nothing = ap tested (sym (minus-is-plus zeroℚ zeroℚ) ∙ plus-inverse zeroℚ) ∙ zero-passes
+
+-- Column c of the rule's form is the cell of the two numbers that it reads: to divide and to negate is to multiply by one factor.
+pub solved-column : (p : ℕ) (d : Row) (c : ℕ) → solvedColumn p d c ≡ solvedCell c p (negℚ (inverse (column d p))) (column d c)
 unfolding solvedColumn solvedCell
-solved-column p d c = refl
+solved-column p d c = ap (cond (eqb c p) (made zeroℚ)) (divided-negated (column d c) (column d p))
 
-module _ (c p : ℕ) (k x : ℚ) where
+module _ (c p : ℕ) (factor : ℚ) where
   -- In the column of the unknown itself the form holds 0.
-  pub cell-solved : c ≡ p → solvedCell c p k x ≡ made zeroℚ
+  pub cell-solved : (x : ℚ) → c ≡ p → solvedCell c p factor x ≡ made zeroℚ
   unfolding solvedCell
-  cell-solved same = ap (λ t. cond t (made zeroℚ) (over x k >>= λ q. made (negℚ q))) (eq-eqb c p same)
+  cell-solved x same = ap (λ t. cond t (made zeroℚ) (times factor x)) (eq-eqb c p same)
 
-  other-column : (c ≡ p → ⊥) → solvedCell c p k x ≡ (over x k >>= λ q. made (negℚ q))
+  -- Any other column is multiplied by the factor.
+  pub cell-other : (x : ℚ) → (c ≡ p → ⊥) → solvedCell c p factor x ≡ times factor x
   unfolding solvedCell
-  other-column other = ap (λ t. cond t (made zeroℚ) (over x k >>= λ q. made (negℚ q))) (ne-eqb c p other)
+  cell-other x other = ap (λ t. cond t (made zeroℚ) (times factor x)) (ne-eqb c p other)
 
-  -- Any other column is divided and negated; a quotient that is refused is the end.
-  pub cell-divided : (c ≡ p → ⊥) → {q : ℚ} → over x k ≡ made q → solvedCell c p k x ≡ made (negℚ q)
-  unfolding _>>=_
-  cell-divided other h = other-column other ∙ ap (λ step. step >>= λ q. made (negℚ q)) h
-
-  pub cell-stops : (c ≡ p → ⊥) → {number : ℕ} → over x k ≡ stopped number → solvedCell c p k x ≡ stopped number
-  unfolding _>>=_
-  cell-stops other h = other-column other ∙ ap (λ step. step >>= λ q. made (negℚ q)) h
+  -- Where the difference holds 0, so does the form.
+  pub cell-nothing : solvedCell c p factor zeroℚ ≡ made zeroℚ
+  unfolding solvedCell times
+  cell-nothing = by (eqb c p)
+    where
+      by : (same : Bool) → cond same (made zeroℚ) (times factor zeroℚ) ≡ made zeroℚ
+      by true = refl
+      by false = ap tested (times-zero factor) ∙ zero-passes

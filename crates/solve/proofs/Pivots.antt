@@ -1,15 +1,23 @@
 -- The unknown of the highest number, found going down.
--- Main results: `pivot-below`, `pivot-found`, `pivot-passes`, `pivot-nothing`. Assume nothing.
-use mathlib.Core.Path.{_≡_, refl, sym, _∙_}
+-- Main results: `pivot-below`, `pivot-found`, `pivot-passes`, `pivot-skips`, `pivot-nothing`, `last-skips`. Assume nothing.
+use mathlib.Core.Path.{_≡_, refl, sym, ap, _∙_}
 use mathlib.Core.Bool.{Bool, true, false}
+use mathlib.Core.List.{List}
 use mathlib.Core.Option.{Option, some, none}
-use Prim.Native.Nat.{ℕ, zero, suc, _-_, _<_}
+use Prim.Native.Nat.{ℕ, zero, suc, _-_, _≤_, _<_}
+use native.Mathlib.Decide.{decLt}
 use native.Mathlib.Omega.{arith}
 use borrow.Author.Tests.{lt-ltb}
+use lib.IntN.{ℤ}
+use Rattle.bits.specs.Sets.{Last}
 use Rattle.fraction.specs.Exact.{zeroℚ, eqℚ}
+use Rattle.fraction.proofs.Equality.{eqℚ-same}
 use Rattle.run.specs.Row.{Row, column}
 use Rattle.run.specs.Merge.{higher, pivot}
 use Rattle.run.specs.Run.{byNumber}
+use Rattle.table.specs.Held.{rowAt, SoundTo}
+use Rattle.table.specs.Sparse.{Within}
+use Rattle.solve.proofs.Columns.{column-nothing}
 
 -- a column above all that were found is the higher one
 higher-taken : (c : ℕ) (found : Option ℕ) → ((p : ℕ) → found ≡ some p → p < c) → higher byNumber c found ≡ some c
@@ -49,6 +57,25 @@ module _ (d : Row) where
       let e : suc c - 1 ≡ c = omega arith in
       rw e (zero-passed c (rw e at there))
 
+  -- So columns that are all zero are passed at once.
+  pub pivot-skips : (c e : ℕ) → e ≤ c → ((k : ℕ) → e ≤ k → k < c → eqℚ (column d k) zeroℚ ≡ true) → pivot byNumber c d ≡ pivot byNumber e d
+  pivot-skips zero e less zeros =
+      let same : e ≡ zero = omega arith in
+      ap (λ k. pivot byNumber k d) (sym same)
+  pivot-skips (suc c) e less zeros = by (pivot-skips c e) (decLt c e)
+    where
+      by : (e ≤ c → ((k : ℕ) → e ≤ k → k < c → eqℚ (column d k) zeroℚ ≡ true) → pivot byNumber c d ≡ pivot byNumber e d) → Dec (c < e) → pivot byNumber (suc c) d ≡ pivot byNumber e d
+      by rest (yes all) =
+          let same : e ≡ suc c = omega arith in
+          ap (λ k. pivot byNumber k d) (sym same)
+      by rest (no more) = zero-passed c (zeros c (omega arith) (omega arith)) ∙ rest (omega arith) (λ k above below. zeros k above (omega arith))
+
   pub pivot-nothing : pivot byNumber 0 d ≡ none
   unfolding pivot
   pivot-nothing = refl
+
+-- Going down, the columns above the last that the set holds give no unknown.
+pub last-skips : {s end r : ℕ} {nums dens : List ℤ} → SoundTo 65 nums dens → Within s 0 nums → end ≤ 64 → Last s end r → pivot byNumber end (rowAt nums dens 0) ≡ pivot byNumber r (rowAt nums dens 0)
+last-skips {end = end} {r = r} {nums = nums} {dens = dens} sound within room last =
+    pivot-skips (rowAt nums dens 0) end r (last .backward) (λ k above below.
+    eqℚ-same (column-nothing k within sound (omega arith) (omega arith) (last .none-between k above below)))

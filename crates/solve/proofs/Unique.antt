@@ -18,7 +18,7 @@ use Rattle.solve.specs.declared.Found.{Found}
 use Rattle.solve.specs.declared.Found.the-variants.{At, Nothing}
 use Rattle.solve.specs.Pivoted.{pivoted}
 
--- How the difference ends, and what it leaves where it is done. (Where it is refused, its 65 places may hold anything that is sound.)
+-- How the difference ends, and what it leaves where it is done. (Where it is refused, its 65 places may hold anything that is sound and lies within the set.)
 pub difference-unique : (left right : Row) {r s : Step} {nums₀ dens₀ nums dens nums′ dens′ : List ℤ} → RowMade (λ c. minus (column left c) (column right c)) 0 65 r nums₀ dens₀ nums dens → RowMade (λ c. minus (column left c) (column right c)) 0 65 s nums₀ dens₀ nums′ dens′ → (r ≡ s) × (r ≡ Done → (nums ≡ nums′) × (dens ≡ dens′))
 difference-unique left right first second = row-made-unique (omega arith) first second
 

@@ -3,10 +3,11 @@
 use mathlib.Core.Bool.{cond}
 use Prim.Native.Nat.{ℕ}
 use lib.Dec.{eqb}
-use Rattle.fraction.specs.Exact.{ℚ, zeroℚ, negℚ}
-use Rattle.fraction.specs.Limits.{over}
-use Rattle.fraction.specs.Made.{Made, made, _>>=_}
+use Rattle.fraction.specs.Exact.{ℚ, zeroℚ}
+use Rattle.fraction.specs.Limits.{times}
+use Rattle.fraction.specs.Made.{Made, made}
 
--- column c of the form solved for p, from a difference that holds k in column p and x in column c: divided and negated
-unfoldable pub solvedCell : (c p : ℕ) → (k x : ℚ) → Made ℕ ℚ
-solvedCell c p k x = cond (eqb c p) (made zeroℚ) (over x k >>= λ q. made (negℚ q))
+-- Column c of the form solved for p, from a difference that holds x in column c. To divide by p's coefficient and to negate is to
+-- multiply by one factor, the same in all columns.
+unfoldable pub solvedCell : (c p : ℕ) → (factor x : ℚ) → Made ℕ ℚ
+solvedCell c p factor x = cond (eqb c p) (made zeroℚ) (times factor x)

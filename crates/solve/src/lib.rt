@@ -1,10 +1,12 @@
-// The difference of two rows, the unknown that it solves, and the form of that unknown, in a row of its own.
+// The difference of two rows, the unknown that it solves, and the form of that unknown, in a row of its own. All go only through the
+// columns of a set, outside of which the rows hold 0, and through the constant's, which `bits::next` comes to last.
 use arithmetic::Made;
 use fraction::Fraction;
 use table::COLUMNS;
 use table::Step;
 use table::TERMS;
 ghost use mathlib.Core.Path.{_≡_};
+ghost use mathlib.Core.Bool.{true};
 ghost use Prim.Native.Nat.{_+_, _<_, _≤_};
 ghost use lib.ListN.{length};
 ghost use Rattle.fraction.specs.Exact.{value};
@@ -16,8 +18,10 @@ ghost use Rattle.run.specs.Merge as rule;
 ghost use Rattle.run.specs.Run.{byNumber};
 ghost use Rattle.table.specs.Held.{rowAt, SoundTo};
 ghost use Rattle.table.specs.Loop.{RowMade};
+ghost use Rattle.table.specs.Sparse.{Within};
+ghost use Rattle.bits.specs.Sets.{holds};
 ghost use Rattle.solve.specs.Cell.{solvedCell};
-ghost use Rattle.solve.specs.Pivoted.{pivoted};
+ghost use Rattle.solve.specs.Pivoted.{pivoted, FoundIn};
 
 // The unknown that a difference solves, by its column; nothing where no unknown is left in it.
 pub enum Found {
@@ -25,12 +29,13 @@ pub enum Found {
     Nothing,
 }
 
-// 01, Merge: "take the difference of the two rows". All of its columns are made and tested, in rising order.
+// 01, Merge: "take the difference of the two rows". Its columns are made and tested in rising order; where both rows hold 0, so does it.
 pub fn difference(
     nums: &[i32],
     dens: &[i32],
     left: usize,
     right: usize,
+    set: u64,
     d_nums: &mut [i32],
     d_dens: &mut [i32],
 ) -> Step
@@ -39,16 +44,21 @@ pub fn difference(
     requires { ⌜ SoundTo (left + 65) (now nums) (now dens) ⌝ }
     requires { ⌜ SoundTo (right + 65) (now nums) (now dens) ⌝ }
     requires { ⌜ SoundTo 65 (now «d_nums») (now «d_dens») ⌝ }
+    requires { ⌜ Within set left (now nums) ⌝ }
+    requires { ⌜ Within set right (now nums) ⌝ }
+    requires { ⌜ Within 0 0 (now «d_nums») ⌝ }
     ensures { λ r. ⌜ RowMade (λ c. minus (column (rowAt (now (nums .entry)) (now (dens .entry)) left) c) (column (rowAt (now (nums .entry)) (now (dens .entry)) right) c)) 0 65 r (now («d_nums» .entry)) (now («d_dens» .entry)) (now («d_nums» .exit)) (now («d_dens» .exit)) ⌝ }
+    ensures { λ r. ⌜ Within set 0 (now («d_nums» .exit)) ⌝ }
 {
     let mut c: usize = 0;
     while c < COLUMNS {
-        let a = table::get(nums, dens, left + c);
-        let b = table::get(nums, dens, right + c);
+        let at = bits::next(set, c);
+        let a = table::get(nums, dens, left + at);
+        let b = table::get(nums, dens, right + at);
         match arithmetic::difference(a, b) {
             Made::Fits(f) => {
-                table::put(d_nums, d_dens, c, f);
-                c += 1;
+                table::put(d_nums, d_dens, at, f);
+                c = at + 1;
             }
             Made::Refused(number) => return Step::Refused(number),
         }
@@ -57,51 +67,57 @@ pub fn difference(
 }
 
 // 01, Merge: "the highest-numbered term with a nonzero coefficient is solved": the first that is met going down.
-pub fn pivot(d_nums: &[i32], d_dens: &[i32]) -> Found
+pub fn pivot(d_nums: &[i32], d_dens: &[i32], set: u64) -> Found
     requires { ⌜ (65 ≤ length (now «d_nums»)) × (65 ≤ length (now «d_dens»)) ⌝ }
     requires { ⌜ SoundTo 65 (now «d_nums») (now «d_dens») ⌝ }
+    requires { ⌜ Within set 0 (now «d_nums») ⌝ }
     ensures { λ r. ⌜ rule.pivot byNumber TERMS (rowAt (now («d_nums» .entry)) (now («d_dens» .entry)) 0) ≡ pivoted r ⌝ }
+    ensures { λ r. ⌜ FoundIn set r ⌝ }
 {
-    let mut c: usize = TERMS;
-    while 0 < c {
-        c -= 1;
+    let mut end = bits::last(set, TERMS);
+    while 0 < end {
+        let c = end - 1;
         let f = table::get(d_nums, d_dens, c);
         if f.num != 0 {
             return Found::At(c);
         }
+        end = bits::last(set, c);
     }
     Found::Nothing
 }
 
-// Column c of the form, from the difference's numbers in the columns p and c.
-fn solved_cell(c: usize, p: usize, k: Fraction, x: Fraction) -> Made
-    requires { ⌜ Good k ⌝ }
+// Column c of the form, from the difference's number there and the factor that divides and negates.
+fn solved_cell(c: usize, p: usize, factor: Fraction, x: Fraction) -> Made
+    requires { ⌜ Good factor ⌝ }
     requires { ⌜ Good x ⌝ }
-    ensures { λ r. ⌜ Answers r (solvedCell c p (value k) (value x)) ⌝ }
+    ensures { λ r. ⌜ Answers r (solvedCell c p (value factor) (value x)) ⌝ }
 {
     if c == p {
         return Made::Fits(Fraction { num: 0, den: 1 });
     }
-    match arithmetic::quotient(x, k) {
-        Made::Fits(f) => Made::Fits(arithmetic::negated(f)),
-        Made::Refused(number) => Made::Refused(number),
-    }
+    arithmetic::product(factor, x)
 }
 
 // 01, Merge: "every other column is divided by that coefficient and negated". The form takes the difference's place.
-pub fn solve_for(d_nums: &mut [i32], d_dens: &mut [i32], p: usize) -> Step
+pub fn solve_for(d_nums: &mut [i32], d_dens: &mut [i32], p: usize, set: u64) -> Step
     requires { ⌜ (p < 64) × (65 ≤ length (now «d_nums»)) × (65 ≤ length (now «d_dens»)) ⌝ }
     requires { ⌜ SoundTo 65 (now «d_nums») (now «d_dens») ⌝ }
+    requires { ⌜ Within set 0 (now «d_nums») ⌝ }
+    requires { ⌜ holds set p ≡ true ⌝ }
     ensures { λ r. ⌜ RowMade (solvedColumn p (rowAt (now («d_nums» .entry)) (now («d_dens» .entry)) 0)) 0 65 r (now («d_nums» .entry)) (now («d_dens» .entry)) (now («d_nums» .exit)) (now («d_dens» .exit)) ⌝ }
+    ensures { λ r. ⌜ Within set 0 (now («d_nums» .exit)) ⌝ }
 {
     let k = table::get(d_nums, d_dens, p);
+    let inverse = arithmetic::inverted(k);
+    let factor = arithmetic::negated(inverse);
     let mut c: usize = 0;
     while c < COLUMNS {
-        let x = table::get(d_nums, d_dens, c);
-        match solved_cell(c, p, k, x) {
+        let at = bits::next(set, c);
+        let x = table::get(d_nums, d_dens, at);
+        match solved_cell(at, p, factor, x) {
             Made::Fits(f) => {
-                table::put(d_nums, d_dens, c, f);
-                c += 1;
+                table::put(d_nums, d_dens, at, f);
+                c = at + 1;
             }
             Made::Refused(number) => return Step::Refused(number),
         }

@@ -1,6 +1,6 @@
 -- Loops that go from column to column of a set, and what the sets of a run say after a step.
--- Main results: `making-skips`, `zero-numerator`, `within-set`, `within-other`, `within-more`, `stirred-itself`. Assume nothing.
-use mathlib.Core.Path.{_≡_, refl, sym, ap, _∙_}
+-- Main results: `making-skips`, `zero-numerator`, `within-value`, `within-set`, `within-other`, `within-stores`, `within-more`, `stirred-itself`. Assume nothing.
+use mathlib.Core.Path.{_≡_, refl, sym, ap, _∙_, subst}
 use mathlib.Core.Logic.{_⊎_, inl, inr, _≢_}
 use mathlib.Core.Bool.{true, false, false≢true}
 use mathlib.Core.List.{List}
@@ -17,8 +17,8 @@ use Rattle.fraction.specs.Exact.{ℚ, value, zeroℚ}
 use Rattle.fraction.specs.Made.{Made, made}
 use Rattle.arithmetic.specs.Values.{Good}
 use Rattle.arithmetic.proofs.Tests.{zero-value}
-use Rattle.bits.specs.Sets.{holds}
-use Rattle.table.specs.Held.{heldAt}
+use Rattle.bits.specs.Sets.{holds, Next}
+use Rattle.table.specs.Held.{heldAt, SoundTo}
 use Rattle.table.specs.Loop.{Making}
 use Rattle.table.specs.Sparse.{Within, Stirred}
 
@@ -43,6 +43,10 @@ making-skips {g} {base} {m} {j} i {nums₀} {dens₀} {nums} {dens} on stays mak
 pub zero-numerator : {f : Fraction} → Good f → f .num ≡ pos 0 → value f ≡ zeroℚ
 zero-numerator good none = zero-value good (ap (ofZ w32) none)
 
+-- So a column of a term outside the set is 0.
+pub within-value : {s base m : ℕ} {nums dens : List ℤ} (c : ℕ) → Within s base nums → SoundTo m nums dens → base + c < m → c < 64 → holds s c ≡ false → value (heldAt nums dens (base + c)) ≡ zeroℚ
+within-value {base = base} c within sound room below out = zero-numerator (sound .good (base + c) room) (within .zero c below out)
+
 -- A column of the set may be stored to, and every place outside the row.
 pub within-set : {s base : ℕ} {nums : List ℤ} (c : ℕ) (x : ℤ) → holds s c ≡ true → Within s base nums → Within s base (set nums (base + c) x)
 within-set {s} {base} {nums} c x inside within =
@@ -60,6 +64,15 @@ within-other {s} {base} {nums} k x away within =
     apart : (c : ℕ) → c < 64 → (k < base) ⊎ (base + 64 ≤ k) → base + c ≢ k
     apart c below (inl h) e = omega arith
     apart c below (inr h) e = omega arith
+
+-- So the turn of a loop that `Next` leads from column to column may store: to a column of the set, or to the constant's.
+pub within-stores : {s base from at place : ℕ} (x : ℤ) {nums nums′ : List ℤ} → Next s from at → Within s base nums → place ≡ base + at → nums′ ≡ set nums place x → Within s base nums′
+within-stores {s} {base} {at = at} x {nums = nums} next within there stored =
+    subst (Within s base) (sym (stored ∙ ap (λ k. set nums k x) there)) (by (decLt at 64))
+  where
+    by : Dec (at < 64) → Within s base (set nums (base + at) x)
+    by (yes below) = within-set at x (next .inside below) within
+    by (no beyond) = within-other (base + at) x (inr (omega arith)) within
 
 -- A larger set has room for the row too.
 pub within-more : {s r base : ℕ} {nums : List ℤ} → ((c : ℕ) → holds r c ≡ false → holds s c ≡ false) → Within s base nums → Within r base nums

@@ -1,33 +1,52 @@
--- `solve::difference` meets its contract. The loop's invariant: the columns passed are those of the rule.
--- Assumes nothing.
+-- `solve::difference` meets its contract. The loop's invariant: the columns passed are those of the rule, and all that is written lies
+-- within the set. Assumes nothing.
 use mathlib.Core.Path.{sym, subst}
 use Prim.Native.Nat.{_-_, _≤_}
 use native.Mathlib.Nat.{zero-add}
 use native.Mathlib.Omega.{arith}
 use denote.Ref.{now}
 use Rattle.fraction.specs.Limits.{minus}
+use Rattle.bits.proofs.Digits.{holds-none}
 use Rattle.arithmetic.specs.Values.{Good, Answers}
 use Rattle.run.specs.Row.{COLUMNS, TERMS, column}
 use Rattle.table.specs.Held.{rowAt}
 use Rattle.table.specs.Loop.{Making}
+use Rattle.table.specs.Sparse.{Within}
 use Rattle.table.proofs.Rows.{making-starts}
+use Rattle.table.proofs.Sparse.{within-more, within-stores}
 use Rattle.table.proofs.Turns.{turn-stores, turn-stops, turns-end}
-use Rattle.solve.proofs.Columns.{column-differs}
+use Rattle.solve.proofs.Columns.{column-differs, difference-skips}
 use borrow.Author.Needs.{needs}
 use Rattle.solve.proofs.difference.Statement.{statement}
 use Rattle.solve.proofs.difference.Tie as tie
 
 abbrev Inv-loop : tie.InvT-loop
-Inv-loop nums dens left right d-nums₀ d-dens₀ c₀ d-nums d-dens c =
-    (c ≤ 65) × Making (λ c. minus (column (rowAt nums dens left) c) (column (rowAt nums dens right) c)) 0 65 c d-nums₀ d-dens₀ d-nums d-dens
+Inv-loop nums dens left right set d-nums₀ d-dens₀ c₀ d-nums d-dens c =
+    (c ≤ 65) × Making (λ c. minus (column (rowAt nums dens left) c) (column (rowAt nums dens right) c)) 0 65 c d-nums₀ d-dens₀ d-nums d-dens × Within set 0 d-nums
 
 abbrev μ-loop : tie.MeasureT-loop
-μ-loop nums dens left right d-nums₀ d-dens₀ c₀ d-nums d-dens c = 65 - c
+μ-loop nums dens left right set d-nums₀ d-dens₀ c₀ d-nums d-dens c = 65 - c
 
 loop-holds : tie.Need-loop-holds Inv-loop μ-loop
 loop-holds c =
-    let a = c .args in
-    (omega arith, making-starts (λ c. minus (column (rowAt (now (a .nums)) (now (a .dens)) (a .left)) c) (column (rowAt (now (a .nums)) (now (a .dens)) (a .right)) c)) 0 65 (now (a .d-nums)) (now (a .d-dens)) (c .pre .1 .1 .1 .1))
+    let a = c .args in (
+      omega arith,
+      making-starts (λ c. minus (column (rowAt (now (a .nums)) (now (a .dens)) (a .left)) c) (column (rowAt (now (a .nums)) (now (a .dens)) (a .right)) c)) 0 65 (now (a .d-nums)) (now (a .d-dens)) (c .pre .1 .1 .1 .1 .0),
+      within-more (λ k out. holds-none k) (c .pre .1 .1 .1 .1 .1 .1 .1),
+    )
+
+next-requires : tie.Need-next-requires Inv-loop μ-loop
+next-requires c κs = search needs
+
+-- the columns up to the next of the set are made
+skipped : (c : tie.After-next Inv-loop μ-loop) →
+    let a = c .before .before .before .args in
+    Making (λ c. minus (column (rowAt (now (a .nums)) (now (a .dens)) (a .left)) c) (column (rowAt (now (a .nums)) (now (a .dens)) (a .right)) c)) 0 65 (c .next .result) (now (a .d-nums)) (now (a .d-dens)) (c .before .before .loop .d-nums) (c .before .before .loop .d-dens)
+skipped c =
+    let head = c .before .before in
+    let a = head .before .args in
+    let pre = head .before .pre .1 .1 in
+    difference-skips (now (a .nums)) (now (a .dens)) (a .left) (a .right) (pre .0) (pre .1 .0) (pre .1 .1 .0) (pre .1 .1 .1 .0) (pre .1 .1 .1 .1 .0) (pre .1 .1 .1 .1 .1) (c .next .ensures) (head .loop .inv .1)
 
 add-get : tie.Need-add-get Inv-loop μ-loop
 add-get c = search needs
@@ -43,21 +62,22 @@ get-requires-2 c κs = search needs
 
 difference-requires : tie.Need-difference-requires Inv-loop μ-loop
 difference-requires c κs =
-    let start = c .before .before .before .before in (
-      subst Good (sym (c .before .get .ensures)) (start .pre .1 .1 .0 .good _ (omega arith)),
-      subst Good (sym (c .get2 .ensures)) (start .pre .1 .1 .1 .0 .good _ (omega arith)),
+    let next = c .before .before in
+    let start = next .before .before .before in (
+      subst Good (sym (c .before .get .ensures)) (start .pre .1 .1 .0 .good _ (omega (arith, next .next .ensures .most))),
+      subst Good (sym (c .get2 .ensures)) (start .pre .1 .1 .1 .0 .good _ (omega (arith, next .next .ensures .most))),
     )
 
 -- what the difference answers is the rule's column
 cell-answers : (c : tie.After-difference Inv-loop μ-loop) →
-    let a = c .before .before .before .before .before .args in
-    let at = c .before .before .before .before .loop .c in
-    Answers (c .difference .result) (minus (column (rowAt (now (a .nums)) (now (a .dens)) (a .left)) at) (column (rowAt (now (a .nums)) (now (a .dens)) (a .right)) at))
+    let next = c .before .before .before in
+    let a = next .before .before .before .args in
+    Answers (c .difference .result) (minus (column (rowAt (now (a .nums)) (now (a .dens)) (a .left)) (next .next .result)) (column (rowAt (now (a .nums)) (now (a .dens)) (a .right)) (next .next .result)))
 cell-answers c =
-    let test = c .before .before .before in
-    let a = test .before .before .args in
+    let next = c .before .before .before in
+    let a = next .before .before .before .args in
     subst (Answers (c .difference .result))
-    (column-differs (now (a .nums)) (now (a .dens)) (a .left) (a .right) (test .loop-test .taken) (c .before .before .get .ensures) (c .before .get2 .ensures))
+    (column-differs (now (a .nums)) (now (a .dens)) (a .left) (a .right) (omega (arith, next .next .ensures .most)) (c .before .before .get .ensures) (c .before .get2 .ensures))
     (c .difference .ensures)
 
 enum-known-f : tie.Need-enum-known-f Inv-loop μ-loop
@@ -75,12 +95,15 @@ loop-less c = search needs
 loop-again : tie.Need-loop-again Inv-loop μ-loop
 loop-again c =
     let turn = c .before .before .before .before .before .before .before .before in
-    let test = turn .before .before .before in
-    let at = test .before .loop .c in
-    let pre = test .before .before .pre in (
-      omega (arith, test .loop-test .taken),
-      turn-stores (test .before .loop .inv .1) (cell-answers turn) (c .before .before .before .before .before .before .f .given .1) (sym (zero-add at))
-          (omega (arith, test, pre .1 .0)) (omega (arith, test, pre .1 .0)) (c .before .before .put .ensures .0) (c .before .before .put .ensures .1),
+    let next = turn .before .before .before in
+    let at = next .next .result in
+    let f = c .before .before .before .before .before .before .f .given in
+    let pre = next .before .before .before .pre in
+    let most = next .next .ensures .most in (
+      omega (arith, most),
+      turn-stores (skipped next) (cell-answers turn) (f .1) (sym (zero-add at))
+          (omega (arith, most, pre .1 .0)) (omega (arith, most, pre .1 .0)) (c .before .before .put .ensures .0) (c .before .before .put .ensures .1),
+      within-stores _ (next .next .ensures) (next .before .before .loop .inv .2) (sym (zero-add at)) (c .before .before .put .ensures .0),
     )
 
 enum-known-number : tie.Need-enum-known-number Inv-loop μ-loop
@@ -96,8 +119,8 @@ returns : tie.Need-returns Inv-loop μ-loop
 unfolding COLUMNS TERMS
 returns c =
     let turn = c .before .before .before in
-    let test = turn .before .before .before in
-    turn-stops (test .before .loop .inv .1) (cell-answers turn) (c .before .number .given .1) (test .loop-test .taken)
+    let next = turn .before .before .before in
+    (turn-stops (skipped next) (cell-answers turn) (c .before .number .given .1) (omega (arith, next .next .ensures .most)), next .before .before .loop .inv .2)
 
 same-length-3 : tie.Need-same-length-3 Inv-loop μ-loop
 same-length-3 c = search needs
@@ -107,7 +130,9 @@ same-length-4 c = search needs
 
 returns-2 : tie.Need-returns-2 Inv-loop μ-loop
 unfolding COLUMNS TERMS
-returns-2 c = turns-end (c .before .loop .inv .1) (c .before .loop .inv .0) (c .loop-test .left)
+returns-2 c =
+    let inv = c .before .loop .inv in
+    (turns-end (inv .1) (inv .0) (c .loop-test .left), inv .2)
 
 pub difference-spec : {M : Type 1} → statement M
 difference-spec =
@@ -116,6 +141,7 @@ difference-spec =
     Inv-loop
     μ-loop
     loop-holds
+    next-requires
     add-get
     get-requires
     add-get-2

@@ -1,5 +1,5 @@
 -- The code's answer to a merge, as the rule's.
--- Main definition: `merged`. Assumes nothing.
+-- Main definitions: `merged`, `Unstopped`. Assumes nothing.
 use Prim.Native.Nat.{ℕ, suc}
 use Rattle.fraction.specs.Made.{Made, made, stopped}
 use Rattle.run.specs.Row.{Table}
@@ -13,3 +13,10 @@ merged Nothing solved table = made (record { table = table; solved = solved })
 merged Solved solved table = made (record { table = table; solved = suc solved })
 merged Contradiction solved table = stopped contradiction
 merged (Refused number) solved table = stopped (outside number)
+
+-- what holds where a merge does not stop
+unfoldable pub Unstopped : Merged → Type 0 → Type 0
+Unstopped Nothing P = P
+Unstopped Solved P = P
+Unstopped Contradiction P = Unit {0}
+Unstopped (Refused number) P = Unit {0}

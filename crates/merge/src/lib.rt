@@ -13,7 +13,10 @@ ghost use Rattle.run.specs.Merge as rule;
 ghost use Rattle.run.specs.Run.{byNumber};
 ghost use Rattle.table.specs.Held.{rowAt, tableAt, SoundTo};
 ghost use Rattle.table.specs.Loop.{Kept};
-ghost use Rattle.merge.specs.Outcome.{merged};
+ghost use Rattle.table.specs.Sparse.{Within, Sparse, Stirred};
+ghost use mathlib.Core.Bool.{true};
+ghost use Rattle.bits.specs.Sets.{holds};
+ghost use Rattle.merge.specs.Outcome.{merged, Unstopped};
 
 // What a merge does: nothing, where the rows are equal; one unknown more is solved; it stops, since no reading is left, or with
 // the number of a refusal.
@@ -30,19 +33,24 @@ fn solve(
     dens: &mut [i32],
     n: usize,
     p: usize,
+    set: u64,
     d_nums: &mut [i32],
     d_dens: &mut [i32],
+    sets: &mut [u64],
 ) -> Merged
     requires { ⌜ (n ≤ 64) × (p < 64) × (4160 ≤ length (now nums)) × (4160 ≤ length (now dens)) ⌝ }
     requires { ⌜ (65 ≤ length (now «d_nums»)) × (65 ≤ length (now «d_dens»)) ⌝ }
     requires { ⌜ SoundTo (65 * n) (now nums) (now dens) ⌝ }
     requires { ⌜ SoundTo 65 (now «d_nums») (now «d_dens») ⌝ }
+    requires { ⌜ (length (now sets) ≡ 193) × Sparse n (now nums) (now sets) ⌝ }
+    requires { ⌜ (holds set p ≡ true) × Within set 0 (now «d_nums») ⌝ }
     ensures { λ r. ⌜ ((solved : ℕ) → because outside (rule.solve p (rowAt (now («d_nums» .entry)) (now («d_dens» .entry)) 0) (record { table = tableAt n (now (nums .entry)) (now (dens .entry)); solved = solved })) ≡ merged r solved (tableAt n (now (nums .exit)) (now (dens .exit)))) ⌝ }
     ensures { λ r. ⌜ Kept 0 (65 * n) (now (nums .entry)) (now (dens .entry)) (now (nums .exit)) (now (dens .exit)) ⌝ }
     ensures { λ r. ⌜ SoundTo (65 * n) (now (nums .exit)) (now (dens .exit)) ⌝ }
+    ensures { λ r. ⌜ Unstopped r (Sparse n (now (nums .exit)) (now (sets .exit)) × Stirred n (now (nums .entry)) (now (dens .entry)) (now (nums .exit)) (now (dens .exit)) (now (sets .entry)) (now (sets .exit))) ⌝ }
 {
-    match solve::solve_for(d_nums, d_dens, p) {
-        Step::Done => match fold::fold_rows(nums, dens, n, p, d_nums, d_dens) {
+    match solve::solve_for(d_nums, d_dens, p, set) {
+        Step::Done => match fold::fold_rows(nums, dens, n, p, set, d_nums, d_dens, sets) {
             Step::Done => Merged::Solved,
             Step::Refused(number) => Merged::Refused(number),
         },
@@ -55,19 +63,24 @@ fn settle(
     nums: &mut [i32],
     dens: &mut [i32],
     n: usize,
+    set: u64,
     d_nums: &mut [i32],
     d_dens: &mut [i32],
+    sets: &mut [u64],
 ) -> Merged
     requires { ⌜ (n ≤ 64) × (4160 ≤ length (now nums)) × (4160 ≤ length (now dens)) ⌝ }
     requires { ⌜ (65 ≤ length (now «d_nums»)) × (65 ≤ length (now «d_dens»)) ⌝ }
     requires { ⌜ SoundTo (65 * n) (now nums) (now dens) ⌝ }
     requires { ⌜ SoundTo 65 (now «d_nums») (now «d_dens») ⌝ }
+    requires { ⌜ (length (now sets) ≡ 193) × Sparse n (now nums) (now sets) ⌝ }
+    requires { ⌜ Within set 0 (now «d_nums») ⌝ }
     ensures { λ r. ⌜ ((solved : ℕ) → rule.settle (rowAt (now («d_nums» .entry)) (now («d_dens» .entry)) 0) (record { table = tableAt n (now (nums .entry)) (now (dens .entry)); solved = solved }) (pivot byNumber TERMS (rowAt (now («d_nums» .entry)) (now («d_dens» .entry)) 0)) ≡ merged r solved (tableAt n (now (nums .exit)) (now (dens .exit)))) ⌝ }
     ensures { λ r. ⌜ Kept 0 (65 * n) (now (nums .entry)) (now (dens .entry)) (now (nums .exit)) (now (dens .exit)) ⌝ }
     ensures { λ r. ⌜ SoundTo (65 * n) (now (nums .exit)) (now (dens .exit)) ⌝ }
+    ensures { λ r. ⌜ Unstopped r (Sparse n (now (nums .exit)) (now (sets .exit)) × Stirred n (now (nums .entry)) (now (dens .entry)) (now (nums .exit)) (now (dens .exit)) (now (sets .entry)) (now (sets .exit))) ⌝ }
 {
-    match solve::pivot(d_nums, d_dens) {
-        Found::At(p) => solve(nums, dens, n, p, d_nums, d_dens),
+    match solve::pivot(d_nums, d_dens, set) {
+        Found::At(p) => solve(nums, dens, n, p, set, d_nums, d_dens, sets),
         Found::Nothing => {
             let constant = table::get(d_nums, d_dens, TERMS);
             if constant.num == 0 {
@@ -78,14 +91,24 @@ fn settle(
     }
 }
 
-// 01, Merge: the rows of the terms t and u are merged in the table of n rows.
-pub fn merge(nums: &mut [i32], dens: &mut [i32], n: usize, t: usize, u: usize) -> Merged
+// 01, Merge: the rows of the terms t and u are merged in the table of n rows. Only the columns of the two rows matter.
+pub fn merge(
+    nums: &mut [i32],
+    dens: &mut [i32],
+    n: usize,
+    t: usize,
+    u: usize,
+    sets: &mut [u64],
+) -> Merged
     requires { ⌜ (n ≤ 64) × (t < n) × (u < n) × (4160 ≤ length (now nums)) × (4160 ≤ length (now dens)) ⌝ }
     requires { ⌜ SoundTo (65 * n) (now nums) (now dens) ⌝ }
+    requires { ⌜ (length (now sets) ≡ 193) × Sparse n (now nums) (now sets) ⌝ }
     ensures { λ r. ⌜ ((solved : ℕ) → rule.merge byNumber t u (record { table = tableAt n (now (nums .entry)) (now (dens .entry)); solved = solved }) ≡ merged r solved (tableAt n (now (nums .exit)) (now (dens .exit)))) ⌝ }
     ensures { λ r. ⌜ Kept 0 (65 * n) (now (nums .entry)) (now (dens .entry)) (now (nums .exit)) (now (dens .exit)) ⌝ }
     ensures { λ r. ⌜ SoundTo (65 * n) (now (nums .exit)) (now (dens .exit)) ⌝ }
+    ensures { λ r. ⌜ Unstopped r (Sparse n (now (nums .exit)) (now (sets .exit)) × Stirred n (now (nums .entry)) (now (dens .entry)) (now (nums .exit)) (now (dens .exit)) (now (sets .entry)) (now (sets .exit))) ⌝ }
 {
+    let set = bits::union(sets[t], sets[u]);
     let mut d_nums = [0i32; COLUMNS];
     let mut d_dens = [1i32; COLUMNS];
     match solve::difference(
@@ -93,10 +116,11 @@ pub fn merge(nums: &mut [i32], dens: &mut [i32], n: usize, t: usize, u: usize) -
         dens,
         COLUMNS * t,
         COLUMNS * u,
+        set,
         &mut d_nums,
         &mut d_dens,
     ) {
-        Step::Done => settle(nums, dens, n, &mut d_nums, &mut d_dens),
+        Step::Done => settle(nums, dens, n, set, &mut d_nums, &mut d_dens, sets),
         Step::Refused(number) => Merged::Refused(number),
     }
 }

@@ -5,12 +5,30 @@ use native.Mathlib.Omega.{arith}
 use Prim.Native.Nat.{_+_, _*_}
 use denote.Ref.{now}
 use Rattle.table.specs.Held.{tableAt}
+use Rattle.table.specs.Sparse.{columnsOf}
 use Rattle.table.proofs.Columns.{sound-zeros, sound-fewer, kept-itself}
 use Rattle.table.proofs.Turns.{finished-done, finished-refused}
+use Rattle.merge.specs.Outcome.{Unstopped}
+use Rattle.merge.proofs.Sets.{within-left, within-right, within-zeros}
 use Rattle.merge.proofs.Steps.{difference-read, difference-made, difference-refused}
 use borrow.Author.Needs.{needs}
 use Rattle.merge.proofs.merge.Statement.{statement}
 use Rattle.merge.proofs.merge.Tie as tie
+
+mul-union : tie.Need-mul-union
+mul-union c = search needs
+
+slice-read-union : tie.Need-slice-read-union
+slice-read-union c = search needs
+
+mul-union-2 : tie.Need-mul-union-2
+mul-union-2 c = search needs
+
+slice-read-union-2 : tie.Need-slice-read-union-2
+slice-read-union-2 c = search needs
+
+union-requires : tie.Need-union-requires
+union-requires c κs = search needs
 
 mul-difference : tie.Need-mul-difference
 mul-difference c = search needs
@@ -25,10 +43,25 @@ slice-aggregate-difference-2 : tie.Need-slice-aggregate-difference-2
 slice-aggregate-difference-2 c = search needs
 
 difference-requires : tie.Need-difference-requires
+unfolding columnsOf
 difference-requires c κs =
-    let start = c .before .before .before .before in (
+    let union = c .before .before .before .before in
+    let start = union .before .before .before .before in
+    let sparse = start .pre .1 .1 .1 in
+    let sound = start .pre .1 .0 in
+    let left = columnsOf (now (start .args .sets)) (start .args .t) in
+    let right = columnsOf (now (start .args .sets)) (start .args .u) in (
       omega arith,
-      ((omega arith, omega arith), (sound-fewer _ (omega arith) (start .pre .1), (sound-fewer _ (omega arith) (start .pre .1), sound-zeros 65))),
+      (
+        (omega arith, omega arith),
+        (
+          sound-fewer _ (omega arith) sound,
+          (
+            sound-fewer _ (omega arith) sound,
+            (sound-zeros 65, (within-left left right (union .union .ensures) (sparse .within (start .args .t) (start .pre .0 .1)), (within-right left right (union .union .ensures) (sparse .within (start .args .u) (start .pre .0 .2)), within-zeros))),
+          ),
+        ),
+      ),
     )
 
 enum-told : tie.Need-enum-told
@@ -42,11 +75,14 @@ slice-aggregate-settle-2 c = search needs
 
 settle-requires : tie.Need-settle-requires
 settle-requires c κs =
-    let made = c .before .before .before .before .before .before .before .before in
-    let start = made .before .before .before .before .before in
-    let kept = made .difference .ensures .kept in (
+    let made = c .before .before .before .before .before .before .before .before .before in
+    let start = made .before .before .before .before .before .before .before .before .before in
+    let kept = made .difference .ensures .0 .kept in (
       (start .pre .0 .0, start .pre .0 .3, start .pre .0 .4),
-      ((omega (arith, kept .nums-length), omega (arith, kept .dens-length)), (start .pre .1, made .difference .ensures .sound)),
+      (
+        (omega (arith, kept .nums-length), omega (arith, kept .dens-length)),
+        (start .pre .1 .0, (made .difference .ensures .0 .sound, (start .pre .1 .1, made .difference .ensures .1))),
+      ),
     )
 
 enum-known-number : tie.Need-enum-known-number
@@ -58,38 +94,47 @@ same-length c = search needs
 same-length-2 : tie.Need-same-length-2
 same-length-2 c = search needs
 
-returns : tie.Need-returns
-returns c =
-    let settled = c .before .before .before .before in
-    let told = settled .before .before .before .before .before in
-    let made = told .before .before .before .before in
-    let start = made .before .before .before .before .before in
-    let a = start .args in (
-      λ solved. difference-made (a .t) (a .u) (tableAt (a .n) (now (a .nums)) (now (a .dens)))
-          (difference-read (a .n) (a .t) (a .u) (now (a .nums)) (now (a .dens)) (start .pre .0 .1) (start .pre .0 .2) ∙ finished-done (made .difference .ensures .ends) (told .enum-told .given .1)) solved ∙ settled .settle .ensures .0 solved,
-      settled .settle .ensures .1,
-    )
-
 same-length-3 : tie.Need-same-length-3
 same-length-3 c = search needs
+
+returns : tie.Need-returns
+returns c =
+    let settled = c .before .before .before .before .before .before in
+    let told = settled .before .before .before .before .before .before in
+    let made = told .before .before .before .before in
+    let start = made .before .before .before .before .before .before .before .before .before in
+    let a = start .args in (
+      λ solved. difference-made (a .t) (a .u) (tableAt (a .n) (now (a .nums)) (now (a .dens)))
+          (difference-read (a .n) (a .t) (a .u) (now (a .nums)) (now (a .dens)) (start .pre .0 .1) (start .pre .0 .2) ∙ finished-done (made .difference .ensures .0 .ends) (told .enum-told .given .1)) solved ∙ settled .settle .ensures .0 solved,
+      settled .settle .ensures .1,
+    )
 
 same-length-4 : tie.Need-same-length-4
 same-length-4 c = search needs
 
+same-length-5 : tie.Need-same-length-5
+same-length-5 c = search needs
+
 returns-2 : tie.Need-returns-2
+unfolding Unstopped
 returns-2 c =
     let made = c .before .before .before .before .before in
-    let start = made .before .before .before .before .before in
+    let start = made .before .before .before .before .before .before .before .before .before in
     let a = start .args in (
       difference-refused (a .t) (a .u) (tableAt (a .n) (now (a .nums)) (now (a .dens)))
-          (difference-read (a .n) (a .t) (a .u) (now (a .nums)) (now (a .dens)) (start .pre .0 .1) (start .pre .0 .2) ∙ finished-refused _ (made .difference .ensures .ends) (c .before .number .given .1)) _,
-      (kept-itself 0 (65 * a .n) (now (a .nums)) (now (a .dens)), start .pre .1),
+          (difference-read (a .n) (a .t) (a .u) (now (a .nums)) (now (a .dens)) (start .pre .0 .1) (start .pre .0 .2) ∙ finished-refused _ (made .difference .ensures .0 .ends) (c .before .number .given .1)) _,
+      (kept-itself 0 (65 * a .n) (now (a .nums)) (now (a .dens)), (start .pre .1 .0, tt)),
     )
 
 pub merge-spec : {M : Type 1} → statement M
 merge-spec =
     tie.close
     (tie.spec
+    mul-union
+    slice-read-union
+    mul-union-2
+    slice-read-union-2
+    union-requires
     mul-difference
     mul-difference-2
     slice-aggregate-difference
@@ -102,7 +147,8 @@ merge-spec =
     enum-known-number
     same-length
     same-length-2
-    returns
     same-length-3
+    returns
     same-length-4
+    same-length-5
     returns-2)

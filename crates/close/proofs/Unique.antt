@@ -10,7 +10,7 @@ use Rattle.run.specs.Row.{Table}
 use Rattle.run.specs.Merge.{State, Stop, contradiction, outside}
 use Rattle.table.specs.Held.{tableAt}
 use Rattle.table.proofs.Determined.{table-determined, lists-determined}
-use Rattle.due.specs.Found.{Lookups}
+use Rattle.due.specs.Found.{Lookups, Awake}
 use Rattle.close.specs.declared.Closed.{Closed}
 use Rattle.close.specs.declared.Closed.the-variants.{Going, Contradiction, Refused}
 use Rattle.close.specs.Outcome.{closed}
@@ -37,10 +37,10 @@ table-back {count} r s table other e p q =
     let states : _≡_ {A = State} (record { table = table; solved = count }) (record { table = other; solved = count }) = cc in
     ap (λ state. state .table) states
 
--- The answer is fixed, and so are both lists where closing goes on. (Where it stops, the first 65n places may hold anything that is
+-- The answer is fixed, and so are both lists where closing goes on; the sets are hints, of which any larger ones serve as well. (Where it stops, the first 65n places may hold anything that is
 -- sound.)
-pub close-unique : (n solved : ℕ) {heads inputs : List ℕ} {r s : Closed} {nums₀ dens₀ nums dens nums′ dens′ : List ℤ} (terms : List Term) → Lookups terms n heads inputs → Ended n solved heads inputs nums₀ dens₀ r nums dens → Ended n solved heads inputs nums₀ dens₀ s nums′ dens′ → (r ≡ s) × ((count : ℕ) → r ≡ Going count → (nums ≡ nums′) × (dens ≡ dens′))
-close-unique n solved {r = r} {s} {nums = nums} {dens} {nums′} {dens′} terms lookups first second = (
+pub close-unique : (n solved : ℕ) {heads inputs : List ℕ} {r s : Closed} {nums₀ dens₀ nums dens nums′ dens′ : List ℤ} {sets₀ : List ℕ} (sets sets′ : List ℕ) (terms : List Term) → Lookups terms n heads inputs → Awake terms n (tableAt n nums₀ dens₀) sets₀ → Ended n solved heads inputs nums₀ dens₀ sets₀ r nums dens sets → Ended n solved heads inputs nums₀ dens₀ sets₀ s nums′ dens′ sets′ → (r ≡ s) × ((count : ℕ) → r ≡ Going count → (nums ≡ nums′) × (dens ≡ dens′))
+close-unique n solved {r = r} {s} {nums = nums} {dens} {nums′} {dens′} sets sets′ terms lookups awake first second = (
   same,
   λ count goes-on. lists-determined (first .1 .0) (second .1 .0) λ k above below.
       table-determined n (first .1 .1 .0) (second .1 .1 .0)
@@ -48,7 +48,7 @@ close-unique n solved {r = r} {s} {nums = nums} {dens} {nums′} {dens′} terms
 )
   where
     answers : closed r (tableAt n nums dens) ≡ closed s (tableAt n nums′ dens′)
-    answers = sym (first .0 terms lookups) ∙ second .0 terms lookups
+    answers = sym (first .0 terms lookups awake) ∙ second .0 terms lookups awake
 
     same : r ≡ s
     same = sym (closed-back r (tableAt n nums dens)) ∙ ap closedOf answers ∙ closed-back s (tableAt n nums′ dens′)

@@ -1,5 +1,5 @@
 -- The code's answer to closing, as the rule's.
--- Main definitions: `closed`, `Counted`. Assumes nothing.
+-- Main definitions: `closed`, `Counted`, `WhileOpen`. Assumes nothing.
 use Prim.Native.Nat.{ℕ, _≤_}
 use Rattle.fraction.specs.Made.{Made, made, stopped}
 use Rattle.run.specs.Row.{Table}
@@ -18,3 +18,9 @@ unfoldable pub Counted : (most : ℕ) → Closed → Type 0
 Counted most (Going solved) = solved ≤ most
 Counted most Contradiction = Unit {0}
 Counted most (Refused number) = Unit {0}
+
+-- what holds where closing goes on
+unfoldable pub WhileOpen : Type 0 → Closed → Type 0
+WhileOpen P (Going solved) = P
+WhileOpen P Contradiction = Unit {0}
+WhileOpen P (Refused number) = Unit {0}

@@ -1,3 +1,4 @@
+-- `due::candidates` meets its contract. Assumes nothing.
 use borrow.Author.Needs.{needs}
 use mathlib.Core.Path.{sym, _∙_}
 use mathlib.Core.Bool.{or-true, or-false, and-true}

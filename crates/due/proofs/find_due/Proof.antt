@@ -1,3 +1,4 @@
+-- `due::find_due` meets its contract: what is left to search from j on gives the rule's pair. Assumes nothing.
 use borrow.Author.Needs.{needs}
 use mathlib.Core.Path.{_≡_, ap, _∙_, subst}
 use mathlib.Core.List.{List}

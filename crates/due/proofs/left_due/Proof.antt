@@ -1,3 +1,4 @@
+-- `due::left_due` meets its contract: what is left to search from i on gives what the rule's search gives. Assumes nothing.
 use borrow.Author.Needs.{needs}
 use mathlib.Core.Path.{_≡_, _∙_}
 use mathlib.Core.Bool.{cond}

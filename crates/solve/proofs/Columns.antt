@@ -48,10 +48,10 @@ module _ (nums dens : List ℤ) (left right : ℕ) where
 
 module _ (p : ℕ) (nums₀ dens₀ : List ℤ) where
   -- The rule reads the difference as it was at entry; from column c on the lists still hold that.
-  pub column-solved : p < 64 → {m c : ℕ} {nums dens : List ℤ} {k inverted factor x : Fraction} → Making (solvedColumn p (rowAt nums₀ dens₀ 0)) 0 m c nums₀ dens₀ nums dens → c < 65 → k ≡ heldAt nums₀ dens₀ p → Stands inverted (inverse (value k)) → Stands factor (negℚ (value inverted)) → x ≡ heldAt nums dens c → solvedCell c p (value factor) (value x) ≡ solvedColumn p (rowAt nums₀ dens₀ 0) c
-  column-solved unknown {m} {c} making below divisor turned opposite here =
+  pub column-solved : p < 64 → {m c : ℕ} {nums dens : List ℤ} {k factor x : Fraction} → Making (solvedColumn p (rowAt nums₀ dens₀ 0)) 0 m c nums₀ dens₀ nums dens → c < 65 → k ≡ heldAt nums₀ dens₀ p → Stands factor (negℚ (inverse (value k))) → x ≡ heldAt nums dens c → solvedCell c p (value factor) (value x) ≡ solvedColumn p (rowAt nums₀ dens₀ 0) c
+  column-solved unknown {m} {c} making below divisor stands here =
       let k-is = ap value divisor ∙ sym (column-first nums₀ dens₀ p (omega arith)) in
-      let factor-is = opposite .same ∙ ap negℚ (turned .same ∙ ap inverse k-is) in
+      let factor-is = stands .same ∙ ap (λ q. negℚ (inverse q)) k-is in
       let x-is = ap value (here ∙ making .kept .outside c (inr (omega arith))) ∙ sym (column-first nums₀ dens₀ c below) in
       ap₂ (solvedCell c p) factor-is x-is ∙ sym (solved-column p (rowAt nums₀ dens₀ 0) c)
 

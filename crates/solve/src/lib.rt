@@ -9,9 +9,9 @@ ghost use mathlib.Core.Path.{_≡_};
 ghost use mathlib.Core.Bool.{true};
 ghost use Prim.Native.Nat.{_+_, _<_, _≤_};
 ghost use lib.ListN.{length};
-ghost use Rattle.fraction.specs.Exact.{value};
+ghost use Rattle.fraction.specs.Exact.{negℚ, inverse, value};
 ghost use Rattle.fraction.specs.Limits.{minus};
-ghost use Rattle.arithmetic.specs.Values.{Good, Answers};
+ghost use Rattle.arithmetic.specs.Values.{Good, Stands, Answers};
 ghost use Rattle.run.specs.Row.{TERMS, column};
 ghost use Rattle.run.specs.Merge.{solvedColumn};
 ghost use Rattle.run.specs.Merge as rule;
@@ -86,7 +86,16 @@ pub fn pivot(d_nums: &[i32], d_dens: &[i32], set: u64) -> Found
     Found::Nothing
 }
 
-// Column c of the form, from the difference's number there and the factor that divides and negates.
+// What divides by the coefficient k and negates, as a factor: it is the same for all columns.
+fn factor_of(k: Fraction) -> Fraction
+    requires { ⌜ Good k ⌝ }
+    ensures { λ r. ⌜ Stands r (negℚ (inverse (value k))) ⌝ }
+{
+    let inverse = arithmetic::inverted(k);
+    arithmetic::negated(inverse)
+}
+
+// Column c of the form, from the factor and the difference's number there.
 fn solved_cell(c: usize, p: usize, factor: Fraction, x: Fraction) -> Made
     requires { ⌜ Good factor ⌝ }
     requires { ⌜ Good x ⌝ }
@@ -107,9 +116,7 @@ pub fn solve_for(d_nums: &mut [i32], d_dens: &mut [i32], p: usize, set: u64) -> 
     ensures { λ r. ⌜ RowMade (solvedColumn p (rowAt (now («d_nums» .entry)) (now («d_dens» .entry)) 0)) 0 65 r (now («d_nums» .entry)) (now («d_dens» .entry)) (now («d_nums» .exit)) (now («d_dens» .exit)) ⌝ }
     ensures { λ r. ⌜ Within set 0 (now («d_nums» .exit)) ⌝ }
 {
-    let k = table::get(d_nums, d_dens, p);
-    let inverse = arithmetic::inverted(k);
-    let factor = arithmetic::negated(inverse);
+    let factor = factor_of(table::get(d_nums, d_dens, p));
     let mut c: usize = 0;
     while c < COLUMNS {
         let at = bits::next(set, c);

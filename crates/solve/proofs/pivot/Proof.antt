@@ -34,7 +34,7 @@ loop-holds : tie.Need-loop-holds Inv-loop μ-loop
 unfolding TERMS
 loop-holds c =
     let last = c .last .ensures in
-    (last .backward, last-skips (c .before .pre .1 .0) (c .before .pre .1 .1) (omega arith) last, last .inside)
+    (omega (arith, last .backward), last-skips (c .before .pre .1 .0) (c .before .pre .1 .1) (omega arith) last, last .inside)
 
 sub-c : tie.Need-sub-c Inv-loop μ-loop
 sub-c c = search needs

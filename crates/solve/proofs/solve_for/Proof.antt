@@ -29,15 +29,12 @@ abbrev μ-loop : tie.MeasureT-loop
 get-requires : tie.Need-get-requires Inv-loop μ-loop
 get-requires c κs = search needs
 
-inverted-requires : tie.Need-inverted-requires Inv-loop μ-loop
-inverted-requires c κs = subst Good (sym (c .get .ensures)) (c .before .before .before .pre .1 .0 .good _ (omega arith))
-
-negated-requires : tie.Need-negated-requires Inv-loop μ-loop
-negated-requires c κs = search needs
+factor-of-requires : tie.Need-factor-of-requires Inv-loop μ-loop
+factor-of-requires c κs = subst Good (sym (c .get .ensures)) (c .before .before .before .pre .1 .0 .good _ (omega arith))
 
 loop-holds : tie.Need-loop-holds Inv-loop μ-loop
 loop-holds c =
-    let start = c .before .before .before .before .before in
+    let start = c .before .before .before .before in
     let a = start .args in
     (omega arith, making-starts (solvedColumn (a .p) (rowAt (now (a .d-nums)) (now (a .d-dens)) 0)) 0 65 (now (a .d-nums)) (now (a .d-dens)) (start .pre .1 .0), start .pre .1 .1 .0)
 
@@ -47,11 +44,11 @@ next-requires c κs = search needs
 -- the columns up to the next of the set are made
 skipped : (c : tie.After-next Inv-loop μ-loop) →
     let head = c .before .before in
-    let a = head .before .before .before .before .before .before .args in
+    let a = head .before .before .before .before .before .args in
     Making (solvedColumn (a .p) (rowAt (now (a .d-nums)) (now (a .d-dens)) 0)) 0 65 (c .next .result) (now (a .d-nums)) (now (a .d-dens)) (head .loop .d-nums) (head .loop .d-dens)
 skipped c =
     let head = c .before .before in
-    let start = head .before .before .before .before .before .before in
+    let start = head .before .before .before .before .before in
     let a = start .args in
     solved-skips (a .p) (now (a .d-nums)) (now (a .d-dens)) (start .pre .1 .0) (start .pre .1 .1 .0) (c .next .ensures) (head .loop .inv .1)
 
@@ -62,33 +59,28 @@ solved-cell-requires : tie.Need-solved-cell-requires Inv-loop μ-loop
 solved-cell-requires c κs =
     let next = c .before .before .before in
     let head = next .before .before in
-    (head .before .negated .ensures .good, subst Good (sym (c .get2 .ensures)) (head .loop .inv .1 .sound .good _ (omega (arith, next .next .ensures .most))))
+    (head .before .factor-of .ensures .good, subst Good (sym (c .get2 .ensures)) (head .loop .inv .1 .sound .good _ (omega (arith, next .next .ensures .most))))
 
 -- what the cell function answers is the rule's column
 cell-answers : (c : tie.After-solved-cell Inv-loop μ-loop) →
     let next = c .before .before .before .before in
-    let a = next .before .before .before .before .before .before .before .before .args in
+    let a = next .before .before .before .before .before .before .before .args in
     Answers (c .solved-cell .result) (solvedColumn (a .p) (rowAt (now (a .d-nums)) (now (a .d-dens)) 0) (next .next .result))
 cell-answers c =
     let next = c .before .before .before .before in
-    let negated = next .before .before .before in
-    let start = negated .before .before .before .before .before in
+    let factor = next .before .before .before in
+    let start = factor .before .before .before .before in
     let a = start .args in
     subst (Answers (c .solved-cell .result))
     (column-solved (a .p) (now (a .d-nums)) (now (a .d-dens)) (start .pre .0 .0) (skipped next) (omega (arith, next .next .ensures .most))
-    (negated .before .before .get .ensures) (negated .before .inverted .ensures) (negated .negated .ensures) (c .before .get2 .ensures))
+    (factor .before .get .ensures) (factor .factor-of .ensures) (c .before .get2 .ensures))
     (c .solved-cell .ensures)
 
 enum-known-f : tie.Need-enum-known-f Inv-loop μ-loop
 enum-known-f c = search needs
 
 put-requires : tie.Need-put-requires Inv-loop μ-loop
-put-requires c κs =
-    let next = c .before .before .before .before .before .before .before .before .before in
-    let head = next .before .before in
-    let kept = head .loop .inv .1 .kept in
-    let pre = head .before .before .before .before .before .before .pre .0 in
-    omega (arith, next .next .ensures .most, kept .nums-length, kept .dens-length, pre)
+put-requires c κs = search needs
 
 add-c : tie.Need-add-c Inv-loop μ-loop
 add-c c = search needs
@@ -103,7 +95,7 @@ loop-again c =
     let head = next .before .before in
     let at = sym (zero-add (next .next .result)) in
     let f = c .before .before .before .before .before .before .f .given in
-    let pre = head .before .before .before .before .before .before .pre in
+    let pre = head .before .before .before .before .before .pre in
     let most = next .next .ensures .most in (
       omega (arith, most),
       turn-stores (skipped next) (cell-answers turn) (f .1) at
@@ -146,8 +138,7 @@ solve-for-spec =
     Inv-loop
     μ-loop
     get-requires
-    inverted-requires
-    negated-requires
+    factor-of-requires
     loop-holds
     next-requires
     get-requires-2

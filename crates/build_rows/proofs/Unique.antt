@@ -13,7 +13,8 @@ use Rattle.table.proofs.Determined.{step-determined, done-determined, row-deter
 use Rattle.build_rows.specs.Built.{RowBuilt}
 
 -- What `build_term` ensures fixes how it ends, and both lists where it is done. (Where it is refused, the row's own places may
--- hold anything: the run ends there, and its caller clears them.)
+-- hold anything: the run ends there, and its caller clears them. The set noted for the row is a hint: only that it has room for the
+-- row's columns is promised, `Sparse`; a larger set would give the same rows, more slowly.)
 pub build-term-unique : (kind : Kind) (t : ℕ) {r s : Step} {nums₀ dens₀ nums dens nums′ dens′ : List ℤ} → RowBuilt kind t r nums₀ dens₀ nums dens → RowBuilt kind t s nums₀ dens₀ nums′ dens′ → (r ≡ s) × (r ≡ Done → (nums ≡ nums′) × (dens ≡ dens′))
 build-term-unique kind t {r} {s} {nums = nums} {dens} {nums′} {dens′} first second =
     let steps = step-determined r s (rowAt nums dens (65 * t)) (rowAt nums′ dens′ (65 * t)) (first .ends) (second .ends) in (

@@ -1,3 +1,4 @@
 pub mod Buildable
 pub mod Built
 pub mod Lowered
+pub mod Sparse

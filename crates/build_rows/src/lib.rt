@@ -7,15 +7,19 @@ use table::COLUMNS;
 use table::Step;
 use table::TERMS;
 ghost use mathlib.Core.Path.{_≡_};
-ghost use Prim.Native.Nat.{_+_, _*_, _<_, _≤_};
-ghost use lib.ListN.{length};
+ghost use Prim.Native.Nat.{ℕ, _+_, _*_, _<_, _≤_};
+ghost use lib.ListN.{length, getD};
+ghost use Rattle.bits.specs.Sets.{holds};
 ghost use Rattle.fraction.specs.Exact.{value};
 ghost use Rattle.arithmetic.specs.Values.{Good, Stands, Answers};
 ghost use Rattle.run.specs.Build.{alone, builtColumn};
 ghost use Rattle.table.specs.Held.{heldAt, tableAt, SoundTo};
-ghost use Rattle.build_rows.specs.Buildable.{Written, Holding, Buildable};
+ghost use Rattle.table.specs.Loop.{Kept};
+ghost use Rattle.table.specs.Sparse.{Within, Sparse};
+ghost use Rattle.build_rows.specs.Buildable.{Written, Holding, Below, Buildable};
 ghost use Rattle.build_rows.specs.Built.{RowBuilt};
 ghost use Rattle.build_rows.specs.Lowered.{Lowered};
+ghost use Rattle.build_rows.specs.Sparse.{mayHold, Covered, Blank};
 
 // The column of the constant stands behind those of the terms.
 const CONSTANT: usize = TERMS;
@@ -77,19 +81,50 @@ fn lowered(kind: Kind) -> Kind
     }
 }
 
-// The row of term t, column by column, until one is refused.
-fn built_row(kind: Kind, t: usize, nums: &mut [i32], dens: &mut [i32]) -> Step
+// Row t with 0 in every column; no other place has changed.
+fn blank_row(t: usize, nums: &mut [i32], dens: &mut [i32])
+    requires { ⌜ (t < 64) × (4160 ≤ length (now nums)) × (4160 ≤ length (now dens)) ⌝ }
+    ensures { λ r. ⌜ Kept (65 * t) (65 * t + 65) (now (nums .entry)) (now (dens .entry)) (now (nums .exit)) (now (dens .exit)) ⌝ }
+    ensures { λ r. ⌜ Blank t (now (nums .exit)) (now (dens .exit)) ⌝ }
+{
+    let from = COLUMNS * t;
+    fill::fill(nums, from, from + COLUMNS, 0);
+    fill::fill(dens, from, from + COLUMNS, 1);
+}
+
+// The terms' columns in which the row of term t can hold something else than 0, by those of the rows before it.
+fn columns_of(kind: Kind, t: usize, sets: &[u64]) -> u64
+    requires { ⌜ (t < 64) × (length (now sets) ≡ 193) ⌝ }
+    requires { ⌜ Below t kind ⌝ }
+    ensures { λ r. ⌜ ((c : ℕ) → holds r c ≡ mayHold (now (sets .entry)) t kind c) ⌝ }
+{
+    match kind {
+        Kind::Constant { value } => 0,
+        Kind::Gain { factor, input } => sets[input],
+        Kind::Sum { left, right } => bits::union(sets[left], sets[right]),
+        Kind::Difference { left, right } => bits::union(sets[left], sets[right]),
+        _ => bits::with(0, t),
+    }
+}
+
+// The row of term t, from column to column of the set and last the constant's, until one is refused. The row is blank, and the rule
+// makes 0 outside the set.
+fn built_row(kind: Kind, t: usize, columns: u64, nums: &mut [i32], dens: &mut [i32]) -> Step
     requires { ⌜ (t < 64) × (4160 ≤ length (now nums)) × (4160 ≤ length (now dens)) ⌝ }
     requires { ⌜ SoundTo (65 * t) (now nums) (now dens) ⌝ }
     requires { ⌜ Buildable Good t kind ⌝ }
+    requires { ⌜ Blank t (now nums) (now dens) ⌝ }
+    requires { ⌜ Covered columns (builtColumn (tableAt t (now nums) (now dens)) t kind) ⌝ }
     ensures { λ r. ⌜ RowBuilt kind t r (now (nums .entry)) (now (dens .entry)) (now (nums .exit)) (now (dens .exit)) ⌝ }
+    ensures { λ r. ⌜ Within columns (65 * t) (now (nums .exit)) ⌝ }
 {
     let mut c: usize = 0;
     while c < COLUMNS {
-        match built_column(kind, t, c, nums, dens) {
+        let at = bits::next(columns, c);
+        match built_column(kind, t, at, nums, dens) {
             Made::Fits(f) => {
-                table::put(nums, dens, COLUMNS * t + c, f);
-                c += 1;
+                table::put(nums, dens, COLUMNS * t + at, f);
+                c = at + 1;
             }
             Made::Refused(number) => return Step::Refused(number),
         }
@@ -97,13 +132,28 @@ fn built_row(kind: Kind, t: usize, nums: &mut [i32], dens: &mut [i32]) -> Step
     Step::Done
 }
 
-// Row t, built from the rows before it.
-pub fn build_term(term: Term, t: usize, nums: &mut [i32], dens: &mut [i32]) -> Step
+// Row t, built from the rows before it, and noted which columns it may have. Nothing is asked of what its places hold at entry.
+pub fn build_term(
+    term: Term,
+    t: usize,
+    nums: &mut [i32],
+    dens: &mut [i32],
+    sets: &mut [u64],
+) -> Step
     requires { ⌜ (t < 64) × (4160 ≤ length (now nums)) × (4160 ≤ length (now dens)) ⌝ }
     requires { ⌜ SoundTo (65 * t) (now nums) (now dens) ⌝ }
     requires { ⌜ Buildable Written t (term .kind) ⌝ }
+    requires { ⌜ length (now sets) ≡ 193 ⌝ }
+    requires { ⌜ Sparse t (now nums) (now sets) ⌝ }
     ensures { λ r. ⌜ RowBuilt (term .kind) t r (now (nums .entry)) (now (dens .entry)) (now (nums .exit)) (now (dens .exit)) ⌝ }
+    ensures { λ r. ⌜ Sparse (t + 1) (now (nums .exit)) (now (sets .exit)) ⌝ }
+    ensures { λ r. ⌜ ((k : ℕ) → (k ≡ t → ⊥) → getD (now (sets .exit)) k 0 ≡ getD (now (sets .entry)) k 0) ⌝ }
 {
-    let kind = term.kind;
-    built_row(lowered(kind), t, nums, dens)
+    let written = term.kind;
+    let kind = lowered(written);
+    let columns = columns_of(kind, t, sets);
+    blank_row(t, nums, dens);
+    let step = built_row(kind, t, columns, nums, dens);
+    sets[t] = columns;
+    step
 }

@@ -1,4 +1,5 @@
 pub mod Decoded
+pub mod Linking
 pub mod Noted
 pub mod Rows
 pub mod Unique

@@ -1,11 +1,11 @@
 -- The lookups as numbers: one more term is noted.
--- Main results: `below-more`, `no-call`, `calls-noted`, `notes-more`. Assume nothing.
+-- Main results: `below-more`, `no-call`, `calls-noted`, `notes-more`, `inputs-noted`, `linked-noted`. Assume nothing.
 use mathlib.Core.Path.{_≡_, refl, sym, ap, _∙_}
 use mathlib.Core.List.{List, [], _∷_}
 use mathlib.Core.Option.{none}
-use Prim.Native.Nat.{ℕ, zero, suc, _+_, _*_, _≤_, _<_}
+use Prim.Native.Nat.{ℕ, zero, suc, _+_, _-_, _*_, _≤_, _<_}
 use native.Mathlib.Nat.{add-zero}
-use native.Mathlib.Decide.{ℕ-discrete}
+use native.Mathlib.Decide.{ℕ-discrete, decLt}
 use native.Mathlib.Omega.{arith}
 use lib.ListN.{length, getD, set, length-set}
 use lib.Seq.{getD-set-same, getD-set-other}
@@ -14,10 +14,13 @@ use types.Run.{OneOf, miss}
 use Rattle.problem.specs.declared.Kind.{Kind}
 use Rattle.problem.specs.declared.Kind.the-variants.{Variable, Constant, Gain, Sum, Difference, Lookup1, Lookup2, Lookup3}
 use Rattle.problem.specs.declared.Term.{Term}
-use Rattle.problem.specs.Lookup.{callOf, kindAt}
+use Rattle.problem.specs.Lookup.{callOf, inputsOf, kindAt}
 use Rattle.problem.proofs.Kind.{the-type}
 use Rattle.table.specs.Calls.{headOf, inputOf, Calls, NotesKept}
+use Rattle.table.specs.Sparse.{Linked}
 use Rattle.build_rows.specs.Buildable.{Below}
+use Rattle.build.specs.Links.{InputsSmall}
+use Rattle.build.proofs.Linking.{linked-kept}
 
 -- Inputs below a number are below any larger one.
 pub below-more : {own more : ℕ} (kind : Kind) → own ≤ more → Below own kind → Below more kind
@@ -68,6 +71,13 @@ module _ (l : List ℕ) (k x y z : ℕ) where
     stored-third : getD stored (k + 2) 0 ≡ z
     stored-third = getD-set-same (set (set l k x) (k + 1) y) (k + 2) z 0 (simp length-set (omega arith))
 
+-- The inputs of term t, stored in their places.
+stored-own : (inputs : List ℕ) (t : ℕ) (kind : Kind) → 3 * t + 2 < length inputs → (i : ℕ) → i < 3 → getD (stored inputs (3 * t) (inputOf kind 0) (inputOf kind 1) (inputOf kind 2)) (3 * t + i) 0 ≡ inputOf kind i
+stored-own inputs t kind wide zero place = rw add-zero (stored-first inputs (3 * t) (inputOf kind 0) (inputOf kind 1) (inputOf kind 2) wide)
+stored-own inputs t kind wide (suc zero) place = stored-second inputs (3 * t) (inputOf kind 0) (inputOf kind 1) (inputOf kind 2) wide
+stored-own inputs t kind wide (suc (suc zero)) place = stored-third inputs (3 * t) (inputOf kind 0) (inputOf kind 1) (inputOf kind 2) wide
+stored-own inputs t kind wide (suc (suc (suc i))) place = absurd (omega arith)
+
 -- The call of one more term is noted: the heads and inputs are those of one term more.
 pub calls-noted : (terms : List Term) (t : ℕ) {kind : Kind} {heads inputs heads′ inputs′ : List ℕ} → t < length heads → 3 * t + 2 < length inputs → kindAt terms t ≡ kind → heads′ ≡ set heads t (headOf kind) → inputs′ ≡ stored inputs (3 * t) (inputOf kind 0) (inputOf kind 1) (inputOf kind 2) → Calls terms t heads inputs → Calls terms (t + 1) heads′ inputs′
 calls-noted terms t {kind} {heads} {inputs} {heads′} {inputs′} short wide e head-is inputs-are calls =
@@ -80,14 +90,8 @@ calls-noted terms t {kind} {heads} {inputs} {heads′} {inputs′} short wide e 
     head-at s below (yes same) = rw same (getD-set-same heads t (headOf kind) 0 short ∙ ap headOf (sym e))
     head-at s below (no other) = getD-set-other heads t s (headOf kind) 0 other ∙ calls .head s (omega arith)
 
-    own : (i : ℕ) → i < 3 → getD (stored inputs (3 * t) (inputOf kind 0) (inputOf kind 1) (inputOf kind 2)) (3 * t + i) 0 ≡ inputOf kind i
-    own zero place = rw add-zero (stored-first inputs (3 * t) (inputOf kind 0) (inputOf kind 1) (inputOf kind 2) wide)
-    own (suc zero) place = stored-second inputs (3 * t) (inputOf kind 0) (inputOf kind 1) (inputOf kind 2) wide
-    own (suc (suc zero)) place = stored-third inputs (3 * t) (inputOf kind 0) (inputOf kind 1) (inputOf kind 2) wide
-    own (suc (suc (suc i))) place = absurd (omega arith)
-
     input-at : (s i : ℕ) → s < t + 1 → i < 3 → Dec (s ≡ t) → getD (stored inputs (3 * t) (inputOf kind 0) (inputOf kind 1) (inputOf kind 2)) (3 * s + i) 0 ≡ inputOf (kindAt terms s) i
-    input-at s i below place (yes same) = rw same (own i place ∙ ap (λ k. inputOf k i) (sym e))
+    input-at s i below place (yes same) = rw same (stored-own inputs t kind wide i place ∙ ap (λ k. inputOf k i) (sym e))
     input-at s i below place (no other) =
         stored-before inputs (3 * t) (inputOf kind 0) (inputOf kind 1) (inputOf kind 2) (3 * s + i) (omega arith) ∙ calls .input s i (omega arith) place
 
@@ -100,3 +104,42 @@ notes-more kind {t} {heads = heads} {inputs} below head-is inputs-are kept =
       heads-beyond = λ k far. ap (λ l. getD l k 0) head-is ∙ getD-set-other heads t k (headOf kind) 0 (λ e. omega arith) ∙ kept .heads-beyond k (omega arith);
       inputs-beyond = λ k far. ap (λ l. getD l k 0) inputs-are ∙ stored-after inputs (3 * t) (inputOf kind 0) (inputOf kind 1) (inputOf kind 2) k (omega arith) ∙ kept .inputs-beyond k (omega arith);
     }
+
+-- The inputs of a term are numbers of terms; so is the 0 of a place without one.
+cons-small : (x : ℕ) (rest : List ℕ) → x < 64 → ((i : ℕ) → getD rest i 0 < 64) → (i : ℕ) → getD (x ∷ rest) i 0 < 64
+cons-small x rest first others zero = first
+cons-small x rest first others (suc i) = others i
+
+none-small : (i : ℕ) → getD {A = ℕ} [] i 0 < 64
+none-small i = omega arith
+
+input-small : (kind : Kind) → Below 64 kind → (i : ℕ) → inputOf kind i < 64
+unfolding Below inputOf inputsOf callOf
+input-small (Variable symbol) b = none-small
+input-small (Constant value) b = none-small
+input-small (Gain factor input) b = none-small
+input-small (Sum left right) b = none-small
+input-small (Difference left right) b = none-small
+input-small (Lookup1 symbol input) b = cons-small input [] b none-small
+input-small (Lookup2 symbol first second) b = cons-small first (second ∷ []) (b .0) (cons-small second [] (b .1) none-small)
+input-small (Lookup3 symbol first second third) b =
+    cons-small first (second ∷ third ∷ []) (b .0) (cons-small second (third ∷ []) (b .1) (cons-small third [] (b .2) none-small))
+
+-- The call of one more term is noted: its inputs are small as those before it, and what was linked stays so.
+module _ (t : ℕ) (kind : Kind) (inputs : List ℕ) {inputs′ : List ℕ} (inputs-are : inputs′ ≡ stored inputs (3 * t) (inputOf kind 0) (inputOf kind 1) (inputOf kind 2)) where
+  noted-before : (k : ℕ) → k < 3 * t → getD inputs′ k 0 ≡ getD inputs k 0
+  noted-before k before = ap (λ l. getD l k 0) inputs-are ∙ stored-before inputs (3 * t) (inputOf kind 0) (inputOf kind 1) (inputOf kind 2) k before
+
+  pub inputs-noted : 3 * t + 2 < length inputs → Below 64 kind → InputsSmall t inputs → InputsSmall (t + 1) inputs′
+  inputs-noted wide b before = record { small = λ k below. by k below (decLt k (3 * t)) }
+    where
+      by : (k : ℕ) → k < 3 * (t + 1) → Dec (k < 3 * t) → getD inputs′ k 0 < 64
+      by k below (yes earlier) = rw (noted-before k earlier) (before .small k earlier)
+      by k below (no later) =
+          let place : k ≡ 3 * t + (k - 3 * t) = omega arith in
+          let own : getD inputs′ k 0 ≡ inputOf kind (k - 3 * t) = ap (λ l. getD l k 0) inputs-are ∙ ap (λ x. getD (stored inputs (3 * t) (inputOf kind 0) (inputOf kind 1) (inputOf kind 2)) x 0) place ∙ stored-own inputs t kind wide (k - 3 * t) (omega arith) in
+          rw own (input-small kind b (k - 3 * t))
+
+  pub linked-noted : {heads heads′ sets : List ℕ} → t < 64 → heads′ ≡ set heads t (headOf kind) → InputsSmall t inputs → Linked t heads inputs sets → Linked t heads′ inputs′ sets
+  linked-noted {heads} small heads-are before linked =
+      linked-kept (omega arith) before (λ j below. ap (λ l. getD l j 0) heads-are ∙ getD-set-other heads t j (headOf kind) 0 (λ e. omega arith)) noted-before (λ k j low high h. h) linked

@@ -1,6 +1,7 @@
 -- The table grows by one row a term: what remains to be built gives the same.
 -- Main results: `table-more`, `rising-starts`, `rising-goes-on`, `rising-ends`, `rising-stops`. Assume nothing.
 use mathlib.Core.Path.{_≡_, refl, sym, ap, _∙_}
+use mathlib.Core.Bool.{true}
 use mathlib.Core.List.{List, [], _∷_, _++_}
 use Prim.Native.Nat.{ℕ, zero, suc, _+_, _*_, _<_}
 use native.Mathlib.Numerals.{add-one}
@@ -9,6 +10,7 @@ use native.Mathlib.Omega.{arith}
 use lib.ListN.{length, drop}
 use lib.Seq.{drop-cons, drop-length}
 use lib.IntN.{ℤ}
+use Rattle.bits.specs.Sets.{holds}
 use Rattle.fraction.specs.Made.{Made, made, stopped, _>>=_}
 use Rattle.problem.specs.declared.Kind.the-variants.{Variable}
 use Rattle.problem.specs.declared.Term.{Term}
@@ -20,6 +22,7 @@ use Rattle.table.specs.declared.Step.the-variants.{Done, Refused}
 use Rattle.table.specs.Held.{listed, rowAt, tableAt, SoundTo, finished}
 use Rattle.table.specs.Loop.{Kept}
 use Rattle.table.specs.Calls.{Calls, NotesKept}
+use Rattle.table.specs.Sparse.{Sparse, Linked, pendingOf}
 use Rattle.table.proofs.Columns.{table-length, kept-itself, kept-within, kept-then}
 use Rattle.table.proofs.Turns.{finished-done, finished-refused}
 use Rattle.build_rows.specs.Built.{RowBuilt}
@@ -89,7 +92,7 @@ module _ (terms : List Term) (nums₀ dens₀ : List ℤ) (heads₀ inputs₀ : 
           }
 
       -- The next row is refused: so is the table.
-      pub rising-stops : {heads′ inputs′ : List ℕ} (n number : ℕ) → n ≡ length terms → NotesKept n heads₀ inputs₀ heads′ inputs′ → step ≡ Refused number → TableBuilt terms n (Refused number) nums₀ dens₀ nums′ dens′ heads₀ inputs₀ heads′ inputs′
+      pub rising-stops : {heads′ inputs′ sets : List ℕ} (n number : ℕ) → n ≡ length terms → NotesKept n heads₀ inputs₀ heads′ inputs′ → step ≡ Refused number → TableBuilt terms n (Refused number) nums₀ dens₀ nums′ dens′ heads₀ inputs₀ heads′ inputs′ sets
       unfolding finished _>>=_
       rising-stops n number sized notes stops =
           record {
@@ -98,16 +101,22 @@ module _ (terms : List Term) (nums₀ dens₀ : List ℤ) (heads₀ inputs₀ : 
             notes = notes;
             sound = λ done. absurd (refused-not-done done);
             calls = λ done. absurd (refused-not-done done);
+            sparse = λ done. absurd (refused-not-done done);
+            linked = λ done. absurd (refused-not-done done);
+            pending = λ done. absurd (refused-not-done done);
           }
 
-  -- All rows are built.
-  pub rising-ends : (n : ℕ) {nums dens : List ℤ} {heads inputs : List ℕ} → n ≡ length terms → Rising terms n nums₀ dens₀ nums dens heads₀ inputs₀ heads inputs → TableBuilt terms n Done nums₀ dens₀ nums dens heads₀ inputs₀ heads inputs
+  -- All rows are built, and the sets are noted.
+  pub rising-ends : (n : ℕ) {nums dens : List ℤ} {heads inputs sets : List ℕ} → n ≡ length terms → Rising terms n nums₀ dens₀ nums dens heads₀ inputs₀ heads inputs → Sparse n nums sets → Linked n heads inputs sets → ((j : ℕ) → j < 64 → holds (pendingOf sets) j ≡ true) → TableBuilt terms n Done nums₀ dens₀ nums dens heads₀ inputs₀ heads inputs sets
   unfolding finished built
-  rising-ends n {nums} {dens} sized rising =
+  rising-ends n {nums} {dens} sized rising sparse linked pending =
       record {
         ends = rising .remains ∙ ap (λ rest. built rest (tableAt n nums dens)) (ap (λ k. drop k terms) sized ∙ drop-length terms);
         kept = rising .kept;
         notes = rising .notes;
         sound = λ done. rising .sound;
         calls = λ done. rising .calls;
+        sparse = λ done. sparse;
+        linked = λ done. linked;
+        pending = λ done. pending;
       }

@@ -20,10 +20,11 @@ abbrev pub CallNoted : (kind : Kind) (t : ℕ) (heads₀ inputs₀ heads inputs 
 CallNoted kind t heads₀ inputs₀ heads inputs =
     (heads ≡ set heads₀ t (headOf kind)) × (inputs ≡ set (set (set inputs₀ (3 * t) (inputOf kind 0)) (3 * t + 1) (inputOf kind 1)) (3 * t + 2) (inputOf kind 2))
 
--- What `build` ensures fixes how it ends, and all four lists where it is done. (Where it is refused, the places of the n terms may
+-- What `build` ensures fixes how it ends, and all four lists where it is done. (The sets noted beside them are hints: only that they
+-- have room for the rows' columns and the lookups' links is promised; larger ones would give the same run, more slowly.) (Where it is refused, the places of the n terms may
 -- hold anything: the run ends there, and nothing reads them but what clears them.)
-pub build-unique : (terms : List Term) (n : ℕ) {r s : Step} {nums₀ dens₀ nums dens nums′ dens′ : List ℤ} {heads₀ inputs₀ heads inputs heads′ inputs′ : List ℕ} → TableBuilt terms n r nums₀ dens₀ nums dens heads₀ inputs₀ heads inputs → TableBuilt terms n s nums₀ dens₀ nums′ dens′ heads₀ inputs₀ heads′ inputs′ → (r ≡ s) × (r ≡ Done → (nums ≡ nums′) × (dens ≡ dens′) × (heads ≡ heads′) × (inputs ≡ inputs′))
-build-unique terms n {r} {s} {nums = nums} {dens} {nums′} {dens′} first second =
+pub build-unique : (terms : List Term) (n : ℕ) {r s : Step} {nums₀ dens₀ nums dens nums′ dens′ : List ℤ} {heads₀ inputs₀ heads inputs heads′ inputs′ : List ℕ} (sets sets′ : List ℕ) → TableBuilt terms n r nums₀ dens₀ nums dens heads₀ inputs₀ heads inputs sets → TableBuilt terms n s nums₀ dens₀ nums′ dens′ heads₀ inputs₀ heads′ inputs′ sets′ → (r ≡ s) × (r ≡ Done → (nums ≡ nums′) × (dens ≡ dens′) × (heads ≡ heads′) × (inputs ≡ inputs′))
+build-unique terms n {r} {s} {nums = nums} {dens} {nums′} {dens′} sets sets′ first second =
     let steps = step-determined r s (tableAt n nums dens) (tableAt n nums′ dens′) (first .ends) (second .ends) in (
       steps,
       λ done.

@@ -1,9 +1,12 @@
-// Step 1 of the run: the rows of the terms, built in rising order, and the lookups as numbers.
+// Step 1 of the run: the rows of the terms, built in rising order, and the lookups as numbers, with their links.
 mod call;
+mod links;
 
 use crate::call::note_call;
+use crate::links::note_links;
 use build_rows::build_term;
 use reader::term_at;
+use table::PENDING;
 use table::Step;
 ghost use mathlib.Core.Path.{_≡_};
 ghost use Prim.Native.Nat.{_≤_};
@@ -14,7 +17,8 @@ ghost use Rattle.problem.specs.Problem.{Problem, decoded};
 ghost use Rattle.reader.specs.Held.{Held};
 ghost use Rattle.build.specs.Built.{TableBuilt};
 
-// The rows and the calls of the n terms that the bytes hold, until a row is refused.
+// The rows, the calls and the links of the n terms that the bytes hold, until a row is refused. At the end every lookup is one that
+// closing has to look at. The users of a term are added to what its set holds at entry.
 pub fn build(
     bytes: &[u8],
     n: usize,
@@ -22,23 +26,27 @@ pub fn build(
     dens: &mut [i32],
     heads: &mut [u16],
     inputs: &mut [u8],
+    sets: &mut [u64],
 ) -> Step
     requires { ⌜ Held (now bytes) ⌝ }
     requires { ⌜ n ≡ field (now bytes) 0 8 ⌝ }
     requires { ⌜ (4160 ≤ length (now nums)) × (4160 ≤ length (now dens)) ⌝ }
     requires { ⌜ (length (now heads) ≡ 64) × (length (now inputs) ≡ 192) ⌝ }
-    ensures { λ r. ⌜ ((problem : Problem) → decoded (now (bytes .entry)) ≡ made problem → TableBuilt (problem .terms) n r (now (nums .entry)) (now (dens .entry)) (now (nums .exit)) (now (dens .exit)) (now (heads .entry)) (now (inputs .entry)) (now (heads .exit)) (now (inputs .exit))) ⌝ }
+    requires { ⌜ length (now sets) ≡ 193 ⌝ }
+    ensures { λ r. ⌜ ((problem : Problem) → decoded (now (bytes .entry)) ≡ made problem → TableBuilt (problem .terms) n r (now (nums .entry)) (now (dens .entry)) (now (nums .exit)) (now (dens .exit)) (now (heads .entry)) (now (inputs .entry)) (now (heads .exit)) (now (inputs .exit)) (now (sets .exit))) ⌝ }
 {
     let mut t: usize = 0;
     while t < n {
         let term = term_at(bytes, t);
         note_call(term, t, heads, inputs);
-        match build_term(term, t, nums, dens) {
+        note_links(t, heads, inputs, sets);
+        match build_term(term, t, nums, dens, sets) {
             Step::Done => {
                 t += 1;
             }
             Step::Refused(number) => return Step::Refused(number),
         }
     }
+    sets[PENDING] = bits::ALL;
     Step::Done
 }

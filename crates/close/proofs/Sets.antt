@@ -1,5 +1,5 @@
 -- The sets after a merge, and where no pair is due.
--- Main results: `ready-merged`, `ready-asleep`. Assume nothing.
+-- Main results: `ready-merged`, `ready-asleep`, `merged-awake`. Assume nothing.
 use mathlib.Core.Path.{_≡_, sym, ap, _∙_, subst}
 use mathlib.Core.Logic.{_≢_}
 use mathlib.Core.List.{List}
@@ -8,9 +8,15 @@ use native.Mathlib.Omega.{arith}
 use lib.ListN.{length, getD, set, length-set}
 use lib.Seq.{getD-set-other}
 use lib.IntN.{ℤ}
-use Rattle.table.specs.Sparse.{Within, columnsOf, Sparse, Stirred}
-use Rattle.due.specs.Found.{InputsBelow}
-use Rattle.due.proofs.Woken.{linked-kept}
+use Rattle.fraction.specs.Made.{made}
+use Rattle.problem.specs.declared.Term.{Term}
+use Rattle.run.specs.Merge.{merge}
+use Rattle.run.specs.Run.{byNumber}
+use Rattle.invariant.proofs.Keeps.{merge-keeps-equal}
+use Rattle.table.specs.Held.{tableAt}
+use Rattle.table.specs.Sparse.{Within, columnsOf, Sparse, Linked, Stirred}
+use Rattle.due.specs.Found.{Lookups, InputsBelow, Awake}
+use Rattle.due.proofs.Woken.{linked-kept, stirred-awake}
 use Rattle.close.specs.Ready.{Ready}
 
 module _ {n : ℕ} {heads inputs : List ℕ} (few : n ≤ 64) (inputs-below : InputsBelow n inputs) {nums : List ℤ} {sets : List ℕ} (ready : Ready n nums heads inputs sets) where
@@ -35,3 +41,10 @@ module _ {n : ℕ} {heads inputs : List ℕ} (few : n ≤ 64) (inputs-below : In
     where
       other : (k : ℕ) → k ≢ 192 → getD (set sets 192 0) k 0 ≡ getD sets k 0
       other k apart = getD-set-other sets 192 k 0 0 apart
+
+-- A merge leaves equal rows equal, so no pair falls due whose sides are not pending.
+pub merged-awake : {terms : List Term} {n : ℕ} {heads inputs : List ℕ} {nums dens nums′ dens′ : List ℤ} {sets sets′ : List ℕ} (left right before after : ℕ) → Lookups terms n heads inputs → InputsBelow n inputs → Linked n heads inputs sets → Stirred n nums dens nums′ dens′ sets sets′ → merge byNumber left right (record { table = tableAt n nums dens; solved = before }) ≡ made (record { table = tableAt n nums′ dens′; solved = after }) → Awake terms n (tableAt n nums dens) sets → Awake terms n (tableAt n nums′ dens′) sets′
+merged-awake left right before after lookups inputs-below linked stirred goes-on awake =
+    stirred-awake lookups inputs-below linked stirred
+    (λ t u _ _ equal. merge-keeps-equal byNumber _ _ left right goes-on t u equal)
+    awake

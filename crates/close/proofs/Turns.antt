@@ -17,9 +17,8 @@ use Rattle.table.specs.Held.{tableAt, SoundTo}
 use Rattle.table.specs.Loop.{Kept}
 use Rattle.table.proofs.Columns.{kept-then}
 use Rattle.table.specs.Sparse.{Sparse, Stirred}
-use Rattle.invariant.proofs.Keeps.{merge-keeps-equal}
 use Rattle.due.specs.Found.{Lookups, InputsBelow, Awake, pairOf}
-use Rattle.due.proofs.Woken.{closed-sleeps, stirred-awake}
+use Rattle.due.proofs.Woken.{closed-sleeps}
 use Rattle.due.specs.declared.Due.{Due}
 use Rattle.due.specs.declared.Due.the-variants.{Pair as Found, Closed as NoneDue}
 use Rattle.merge.specs.Outcome.{merged, Unstopped}
@@ -29,7 +28,7 @@ use Rattle.close.specs.declared.Closed.{Closed}
 use Rattle.close.specs.declared.Closed.the-variants.{Going, Contradiction, Refused}
 use Rattle.close.specs.Outcome.{closed, Counted, WhileOpen}
 use Rattle.close.specs.Ready.{Ready}
-use Rattle.close.proofs.Sets.{ready-merged, ready-asleep}
+use Rattle.close.proofs.Sets.{ready-merged, ready-asleep, merged-awake}
 
 -- the state that the lists and the count hold
 abbrev pub stateAt : (n : ℕ) (nums dens : List ℤ) (solved : ℕ) → State
@@ -131,7 +130,7 @@ module _ {n solved : ℕ} {heads inputs : List ℕ} {nums₀ dens₀ : List ℤ}
                 sound = sound;
                 counted = omega (arith, closing .counted);
                 ready = ready-merged few inputs-below (closing .ready) (noted .0) (noted .1);
-                awake = woken (noted .1) count (merges count ∙ ap (λ m. merged m count (tableAt n nums′ dens′)) is);
+                awake = λ terms lookups awake. merged-awake left right count count lookups inputs-below (closing .ready .linked) (noted .1) (merges count ∙ ap (λ m. merged m count (tableAt n nums′ dens′)) is) (closing .awake terms lookups awake);
               };
           more = λ is.
               let noted = subst (λ a. Unstopped a (Sparse n nums′ sets′ × Stirred n nums dens nums′ dens′ sets sets′)) is unstopped in
@@ -141,7 +140,7 @@ module _ {n solved : ℕ} {heads inputs : List ℕ} {nums₀ dens₀ : List ℤ}
                 sound = sound;
                 counted = omega (arith, closing .counted);
                 ready = ready-merged few inputs-below (closing .ready) (noted .0) (noted .1);
-                awake = woken (noted .1) (suc count) (merges count ∙ ap (λ m. merged m count (tableAt n nums′ dens′)) is);
+                awake = λ terms lookups awake. merged-awake left right count (suc count) lookups inputs-below (closing .ready .linked) (noted .1) (merges count ∙ ap (λ m. merged m count (tableAt n nums′ dens′)) is) (closing .awake terms lookups awake);
               };
           contradicts = λ is. (after Clash is, (kept-then (closing .kept) kept, (sound, (tt, (tt, λ terms lookups awake. tt)))));
           refuses = λ number is. (after (Outside number) is, (kept-then (closing .kept) kept, (sound, (tt, (tt, λ terms lookups awake. tt)))));
@@ -154,10 +153,3 @@ module _ {n solved : ℕ} {heads inputs : List ℕ} {nums₀ dens₀ : List ℤ}
         after to is terms lookups awake =
             step terms lookups awake (some (record { left = left; right = right })) (ap pairOf is-pair)
             ∙ ap (λ m. m >>= closeFor (turns - 1) byNumber terms) (merges count ∙ ap (λ m. merged m count (tableAt n nums′ dens′)) is)
-
-        -- equal rows stay equal, so no pair falls due whose sides are not pending
-        woken : Stirred n nums dens nums′ dens′ sets sets′ → (counted : ℕ) → merge byNumber left right (stateAt n nums dens count) ≡ made (stateAt n nums′ dens′ counted) → (terms : List Term) → Lookups terms n heads inputs → Awake terms n (tableAt n nums₀ dens₀) sets₀ → Awake terms n (tableAt n nums′ dens′) sets′
-        woken stirred counted goes-on terms lookups awake =
-            stirred-awake lookups inputs-below (closing .ready .linked) stirred
-            (λ t u _ _ equal. merge-keeps-equal byNumber (stateAt n nums dens count) (stateAt n nums′ dens′ counted) left right goes-on t u equal)
-            (closing .awake terms lookups awake)

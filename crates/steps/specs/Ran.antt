@@ -10,8 +10,9 @@ use Rattle.problem.specs.Bits.{field}
 use Rattle.problem.specs.Problem.{Problem, decoded}
 use Rattle.run.specs.Row.{Table}
 use Rattle.run.specs.Merge.{State}
-use Rattle.table.specs.Held.{SoundTo}
-use Rattle.due.specs.Found.{Lookups, InputsBelow}
+use Rattle.table.specs.Held.{tableAt, SoundTo}
+use Rattle.due.specs.Found.{Lookups, InputsBelow, Awake}
+use Rattle.close.specs.Ready.{Ready}
 use Rattle.reader.specs.Held.{Held}
 use Rattle.steps.specs.declared.Ran.{Ran}
 use Rattle.steps.specs.declared.Ran.the-variants.{Going, Ended}
@@ -31,10 +32,12 @@ unfoldable pub WhileGoing : (holds : Type 0) → Ran → Type 0
 WhileGoing holds (Going solved) = holds
 WhileGoing holds (Ended answer) = Unit {0}
 
--- The byte string holds a problem of n terms, whose rows are sound and whose lookups are noted as numbers.
-pub record Prepared (bytes : List ℕ) (n : ℕ) (nums dens : List ℤ) (heads inputs : List ℕ) : Type 0 where
+-- The byte string holds a problem of n terms, whose rows are sound and whose lookups are noted as numbers; the sets serve both.
+pub record Prepared (bytes : List ℕ) (n : ℕ) (nums dens : List ℤ) (heads inputs sets : List ℕ) : Type 0 where
   pub held : Held bytes
   pub terms : n ≡ field bytes 0 8
   pub sound : SoundTo (65 * n) nums dens
   pub lookups : (problem : Problem) → decoded bytes ≡ made problem → Lookups (problem .terms) n heads inputs
   pub below : InputsBelow n inputs
+  pub ready : Ready n nums heads inputs sets
+  pub awake : (problem : Problem) → decoded bytes ≡ made problem → Awake (problem .terms) n (tableAt n nums dens) sets

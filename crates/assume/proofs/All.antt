@@ -20,22 +20,25 @@ use Rattle.run.specs.Run.{byNumber, assume}
 use Rattle.table.specs.Held.{tableAt, SoundTo}
 use Rattle.table.specs.Loop.{Kept}
 use Rattle.table.proofs.Columns.{kept-itself, kept-then}
-use Rattle.due.specs.Found.{Lookups}
+use Rattle.due.specs.Found.{Lookups, Awake}
+use Rattle.close.specs.Ready.{Ready}
 use Rattle.close.proofs.Turns.{stateAt}
 use Rattle.steps.specs.declared.Ran.{Ran}
 use Rattle.steps.specs.declared.Ran.the-variants.{Going, Ended}
-use Rattle.steps.specs.Ran.{ran, AtMost}
+use Rattle.steps.specs.Ran.{ran, AtMost, WhileGoing, Prepared}
 use Rattle.assume.specs.Assumed.{assumed}
 
 -- In the loop, before assumption k: what is left to assume gives what all of them give; only the rows of the terms have changed,
 -- and they are sound; each assumption solved at most 66 unknowns.
-pub record Assuming (bytes : List ℕ) (n m solved : ℕ) (nums₀ dens₀ : List ℤ) (count k : ℕ) (nums dens : List ℤ) : Type 0 where
+pub record Assuming (bytes : List ℕ) (n m solved : ℕ) (heads inputs : List ℕ) (nums₀ dens₀ : List ℤ) (count k : ℕ) (nums dens : List ℤ) (sets : List ℕ) : Type 0 where
   pub rest : (problem : Problem) → decoded bytes ≡ made problem → assume byNumber (problem .terms) 1 (problem .pairs) (stateAt n nums₀ dens₀ solved) ≡ assume byNumber (problem .terms) k (drop (k - 1) (problem .pairs)) (stateAt n nums dens count)
   pub kept : Kept 0 (65 * n) nums₀ dens₀ nums dens
   pub sound : SoundTo (65 * n) nums dens
   pub least : 1 ≤ k
   pub most : k ≤ m + 1
   pub counted : count < 66 * k
+  pub ready : Ready n nums heads inputs sets
+  pub awake : (problem : Problem) → decoded bytes ≡ made problem → Awake (problem .terms) n (tableAt n nums dens) sets
 
 -- The loop is over: the answer is the rule's, and what has changed is as in the loop.
 abbrev pub AllAssumed : (bytes : List ℕ) (n solved : ℕ) (nums₀ dens₀ : List ℤ) (answer : Ran) (nums dens : List ℤ) → Type 0
@@ -44,19 +47,21 @@ AllAssumed bytes n solved nums₀ dens₀ answer nums dens =
     × (Kept 0 (65 * n) nums₀ dens₀ nums dens × SoundTo (65 * n) nums dens)
 
 -- What assumption k leaves, by its answer: the loop goes on to the next or is over.
-pub record Turned (bytes : List ℕ) (n m solved : ℕ) (nums₀ dens₀ : List ℤ) (next : ℕ) (nums dens : List ℤ) (answer : Ran) : Type 0 where
-  pub on : (more : ℕ) → answer ≡ Going more → Assuming bytes n m solved nums₀ dens₀ more next nums dens
+pub record Turned (bytes : List ℕ) (n m solved : ℕ) (heads inputs : List ℕ) (nums₀ dens₀ : List ℤ) (next : ℕ) (nums dens : List ℤ) (sets : List ℕ) (answer : Ran) : Type 0 where
+  pub on : (more : ℕ) → answer ≡ Going more → Assuming bytes n m solved heads inputs nums₀ dens₀ more next nums dens sets
   pub stops : (end : Answer) → answer ≡ Ended end → AllAssumed bytes n solved nums₀ dens₀ (Ended end) nums dens
 
-pub assuming-starts : (bytes : List ℕ) (n m solved : ℕ) (nums dens : List ℤ) → SoundTo (65 * n) nums dens → solved ≤ 65 → Assuming bytes n m solved nums dens solved 1 nums dens
-assuming-starts bytes n m solved nums dens sound few =
+pub assuming-starts : (bytes : List ℕ) (n m solved : ℕ) (heads inputs : List ℕ) (nums dens : List ℤ) (sets : List ℕ) → Prepared bytes n nums dens heads inputs sets → solved ≤ 65 → Assuming bytes n m solved heads inputs nums dens solved 1 nums dens sets
+assuming-starts bytes n m solved heads inputs nums dens sets prepared few =
     record {
       rest = λ problem held. refl;
       kept = kept-itself _ _ nums dens;
-      sound = sound;
+      sound = prepared .sound;
       least = omega arith;
       most = omega arith;
       counted = omega arith;
+      ready = prepared .ready;
+      awake = prepared .awake;
     }
 
 -- The sides of a pair are numbers of terms.
@@ -66,7 +71,7 @@ sides-below bytes n k sides there =
     let both = sides-made bytes n k _ (pairOf sides) (sym there) in
     (both .left-below, both .right-below)
 
-module _ {bytes : List ℕ} {n m solved : ℕ} {nums₀ dens₀ : List ℤ} {count k : ℕ} {nums dens : List ℤ} (assuming : Assuming bytes n m solved nums₀ dens₀ count k nums dens) (pairs : m ≡ field bytes 8 8) where
+module _ {bytes : List ℕ} {n m solved : ℕ} {heads inputs : List ℕ} {nums₀ dens₀ : List ℤ} {count k : ℕ} {nums dens : List ℤ} {sets : List ℕ} (assuming : Assuming bytes n m solved heads inputs nums₀ dens₀ count k nums dens sets) (pairs : m ≡ field bytes 8 8) where
   -- None is left.
   pub assuming-ends : m < k → AllAssumed bytes n solved nums₀ dens₀ (Going count) nums dens
   unfolding assume ran
@@ -89,18 +94,18 @@ module _ {bytes : List ℕ} {n m solved : ℕ} {nums₀ dens₀ : List ℤ} {cou
         drop-cons (problem .pairs) (k - 1) (pairOf sides) (omega (arith, pairs-count bytes problem held))
         ∙ ap₂ (λ p j. p ∷ drop j (problem .pairs)) same index
 
-    module _ {heads inputs : List ℕ} (lookups : (problem : Problem) → decoded bytes ≡ made problem → Lookups (problem .terms) n heads inputs) (answer : Ran) {nums′ dens′ : List ℤ} (assumes : (terms : List Term) → Lookups terms n heads inputs → assumed terms k (sides .left) (sides .right) (stateAt n nums dens count) ≡ ran answer (tableAt n nums′ dens′)) (kept : Kept 0 (65 * n) nums dens nums′ dens′) (sound : SoundTo (65 * n) nums′ dens′) (counted : AtMost (count + 66) answer) where
+    module _ (lookups : (problem : Problem) → decoded bytes ≡ made problem → Lookups (problem .terms) n heads inputs) (answer : Ran) {nums′ dens′ : List ℤ} (sets′ : List ℕ) (assumes : (terms : List Term) → Lookups terms n heads inputs → Awake terms n (tableAt n nums dens) sets → assumed terms k (sides .left) (sides .right) (stateAt n nums dens count) ≡ ran answer (tableAt n nums′ dens′)) (kept : Kept 0 (65 * n) nums dens nums′ dens′) (sound : SoundTo (65 * n) nums′ dens′) (counted : AtMost (count + 66) answer) (ready : WhileGoing (Ready n nums′ heads inputs sets′) answer) (awake : (terms : List Term) → Lookups terms n heads inputs → Awake terms n (tableAt n nums dens) sets → WhileGoing (Awake terms n (tableAt n nums′ dens′) sets′) answer) where
       step : (to : Ran) → answer ≡ to → (problem : Problem) → decoded bytes ≡ made problem → assume byNumber (problem .terms) 1 (problem .pairs) (stateAt n nums₀ dens₀ solved) ≡ ran to (tableAt n nums′ dens′) >>= assume byNumber (problem .terms) (suc k) (drop k (problem .pairs))
       unfolding assume assumed pairOf
       step to is problem held =
           assuming .rest problem held
           ∙ ap (λ ps. assume byNumber (problem .terms) k ps (stateAt n nums dens count)) (first problem held)
           ∙ ap (λ m. m >>= assume byNumber (problem .terms) (suc k) (drop k (problem .pairs)))
-          (assumes (problem .terms) (lookups problem held) ∙ ap (λ r. ran r (tableAt n nums′ dens′)) is)
+          (assumes (problem .terms) (lookups problem held) (assuming .awake problem held) ∙ ap (λ r. ran r (tableAt n nums′ dens′)) is)
 
       -- Assumption k is assumed.
-      pub assuming-turned : Turned bytes n m solved nums₀ dens₀ (k + 1) nums′ dens′ answer
-      unfolding ran _>>=_ AtMost
+      pub assuming-turned : Turned bytes n m solved heads inputs nums₀ dens₀ (k + 1) nums′ dens′ sets′ answer
+      unfolding ran _>>=_ AtMost WhileGoing
       assuming-turned =
           record {
             on = λ more is.
@@ -116,6 +121,8 @@ module _ {bytes : List ℕ} {n m solved : ℕ} {nums₀ dens₀ : List ℤ} {cou
                   least = omega arith;
                   most = omega arith;
                   counted = omega (arith, assuming .counted);
+                  ready = subst (WhileGoing (Ready n nums′ heads inputs sets′)) is ready;
+                  awake = λ problem held. subst (WhileGoing (Awake (problem .terms) n (tableAt n nums′ dens′) sets′)) is (awake (problem .terms) (lookups problem held) (assuming .awake problem held));
                 };
             stops = λ end is. (step (Ended end) is, (kept-then (assuming .kept) kept, sound));
           }

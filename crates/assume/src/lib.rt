@@ -14,8 +14,9 @@ ghost use Rattle.run.specs.Run as rule;
 ghost use Rattle.run.specs.Run.{byNumber};
 ghost use Rattle.table.specs.Held.{tableAt, SoundTo};
 ghost use Rattle.table.specs.Loop.{Kept};
-ghost use Rattle.due.specs.Found.{Lookups, InputsBelow};
-ghost use Rattle.steps.specs.Ran.{ran, AtMost, Prepared};
+ghost use Rattle.due.specs.Found.{Lookups, InputsBelow, Awake};
+ghost use Rattle.close.specs.Ready.{Ready};
+ghost use Rattle.steps.specs.Ran.{ran, AtMost, WhileGoing, Prepared};
 ghost use Rattle.assume.specs.Assumed.{assumed};
 
 // 01, The run, 3: one assumption, its sides merged, then closed.
@@ -25,6 +26,7 @@ fn assume_one(
     n: usize,
     heads: &[u16],
     inputs: &[u8],
+    sets: &mut [u64],
     place: usize,
     left: usize,
     right: usize,
@@ -35,20 +37,23 @@ fn assume_one(
     requires { ⌜ (length (now heads) ≡ 64) × (length (now inputs) ≡ 192) ⌝ }
     requires { ⌜ SoundTo (65 * n) (now nums) (now dens) ⌝ }
     requires { ⌜ InputsBelow n (now inputs) ⌝ }
-    ensures { λ r. ⌜ ((terms : List Term) → Lookups terms n (now (heads .entry)) (now (inputs .entry)) → assumed terms place left right (record { table = tableAt n (now (nums .entry)) (now (dens .entry)); solved = solved }) ≡ ran r (tableAt n (now (nums .exit)) (now (dens .exit)))) ⌝ }
+    requires { ⌜ Ready n (now nums) (now heads) (now inputs) (now sets) ⌝ }
+    ensures { λ r. ⌜ ((terms : List Term) → Lookups terms n (now (heads .entry)) (now (inputs .entry)) → Awake terms n (tableAt n (now (nums .entry)) (now (dens .entry))) (now (sets .entry)) → assumed terms place left right (record { table = tableAt n (now (nums .entry)) (now (dens .entry)); solved = solved }) ≡ ran r (tableAt n (now (nums .exit)) (now (dens .exit)))) ⌝ }
     ensures { λ r. ⌜ Kept 0 (65 * n) (now (nums .entry)) (now (dens .entry)) (now (nums .exit)) (now (dens .exit)) ⌝ }
     ensures { λ r. ⌜ SoundTo (65 * n) (now (nums .exit)) (now (dens .exit)) ⌝ }
     ensures { λ r. ⌜ AtMost (solved + 66) r ⌝ }
+    ensures { λ r. ⌜ WhileGoing (Ready n (now (nums .exit)) (now (heads .entry)) (now (inputs .entry)) (now (sets .exit))) r ⌝ }
+    ensures { λ r. ⌜ ((terms : List Term) → Lookups terms n (now (heads .entry)) (now (inputs .entry)) → Awake terms n (tableAt n (now (nums .entry)) (now (dens .entry))) (now (sets .entry)) → WhileGoing (Awake terms n (tableAt n (now (nums .exit)) (now (dens .exit))) (now (sets .exit))) r) ⌝ }
 {
-    match merge::merge(nums, dens, n, left, right) {
+    match merge::merge(nums, dens, n, left, right, sets) {
         Merged::Nothing => steps::placed(
             place,
-            close::close(nums, dens, n, heads, inputs, solved),
+            close::close(nums, dens, n, heads, inputs, sets, solved),
             solved + 66,
         ),
         Merged::Solved => steps::placed(
             place,
-            close::close(nums, dens, n, heads, inputs, solved + 1),
+            close::close(nums, dens, n, heads, inputs, sets, solved + 1),
             solved + 66,
         ),
         Merged::Contradiction => Ran::Ended(Answer::Contradictory { place: place }),
@@ -68,9 +73,10 @@ pub fn assume_all(
     dens: &mut [i32],
     heads: &[u16],
     inputs: &[u8],
+    sets: &mut [u64],
     solved: usize,
 ) -> Ran
-    requires { ⌜ Prepared (now bytes) n (now nums) (now dens) (now heads) (now inputs) ⌝ }
+    requires { ⌜ Prepared (now bytes) n (now nums) (now dens) (now heads) (now inputs) (now sets) ⌝ }
     requires { ⌜ (m ≡ field (now bytes) 8 8) × (solved ≤ 65) ⌝ }
     requires { ⌜ (4160 ≤ length (now nums)) × (4160 ≤ length (now dens)) ⌝ }
     requires { ⌜ (length (now heads) ≡ 64) × (length (now inputs) ≡ 192) ⌝ }
@@ -88,6 +94,7 @@ pub fn assume_all(
             n,
             heads,
             inputs,
+            sets,
             k,
             pair.left,
             pair.right,

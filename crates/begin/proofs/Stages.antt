@@ -1,6 +1,6 @@
 -- Steps 1 and 2 of the run, by how the build ends.
--- Main results: `begin-refused`, `begin-closed`, `counted-within`, `while-going`. Assume nothing.
-use mathlib.Core.Path.{_≡_, ap}
+-- Main results: `begin-refused`, `begin-closed`, `counted-within`, `when-going`, `while-going`, `going-holds`. Assume nothing.
+use mathlib.Core.Path.{_≡_, refl, ap, subst}
 use mathlib.Core.List.{List, []}
 use Prim.Native.Nat.{ℕ, _≤_}
 use native.Mathlib.Omega.{arith}
@@ -42,8 +42,17 @@ counted-within (Closing solved) less counted = omega (arith, less, counted)
 counted-within Contradiction less counted = tt
 counted-within (Outside number) less counted = tt
 
+-- What holds wherever the run goes on holds while it does.
+pub when-going : {holds : Type 0} (r : Ran) → ((count : ℕ) → r ≡ Going count → holds) → WhileGoing holds r
+unfolding WhileGoing
+when-going (Going count) held = held count refl
+when-going (Ended answer) held = tt
+
 -- What holds holds while the run goes on.
 pub while-going : {holds : Type 0} (r : Ran) → holds → WhileGoing holds r
+while-going r held = when-going r λ count going. held
+
+-- And what holds while the run goes on holds where it does.
+pub going-holds : {holds : Type 0} {r : Ran} {count : ℕ} → r ≡ Going count → WhileGoing holds r → holds
 unfolding WhileGoing
-while-going (Going solved) held = held
-while-going (Ended answer) held = tt
+going-holds {holds} going held = subst (WhileGoing holds) going held

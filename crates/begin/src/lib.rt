@@ -16,7 +16,7 @@ ghost use Rattle.table.specs.Loop.{Kept};
 ghost use Rattle.table.specs.Calls.{NotesKept};
 ghost use Rattle.steps.specs.Ran.{ran, AtMost, WhileGoing, Prepared};
 
-// 01, The run, 1 and 2: the rows are built and closed; a stop there has place 0.
+// 01, The run, 1 and 2: the rows are built and closed; a stop there has place 0. The sets serve what the run goes on with.
 pub fn begin(
     bytes: &[u8],
     n: usize,
@@ -24,19 +24,21 @@ pub fn begin(
     dens: &mut [i32],
     heads: &mut [u16],
     inputs: &mut [u8],
+    sets: &mut [u64],
 ) -> Ran
     requires { ⌜ Held (now bytes) ⌝ }
     requires { ⌜ n ≡ field (now bytes) 0 8 ⌝ }
     requires { ⌜ (4160 ≤ length (now nums)) × (4160 ≤ length (now dens)) ⌝ }
     requires { ⌜ (length (now heads) ≡ 64) × (length (now inputs) ≡ 192) ⌝ }
+    requires { ⌜ length (now sets) ≡ 193 ⌝ }
     ensures { λ r. ⌜ ((problem : Problem) → decoded (now (bytes .entry)) ≡ made problem → rule.begin byNumber (problem .terms) ≡ ran r (tableAt n (now (nums .exit)) (now (dens .exit)))) ⌝ }
     ensures { λ r. ⌜ Kept 0 (65 * n) (now (nums .entry)) (now (dens .entry)) (now (nums .exit)) (now (dens .exit)) ⌝ }
-    ensures { λ r. ⌜ WhileGoing (Prepared (now (bytes .entry)) n (now (nums .exit)) (now (dens .exit)) (now (heads .exit)) (now (inputs .exit))) r ⌝ }
+    ensures { λ r. ⌜ WhileGoing (Prepared (now (bytes .entry)) n (now (nums .exit)) (now (dens .exit)) (now (heads .exit)) (now (inputs .exit)) (now (sets .exit))) r ⌝ }
     ensures { λ r. ⌜ AtMost 65 r ⌝ }
     ensures { λ r. ⌜ NotesKept n (now (heads .entry)) (now (inputs .entry)) (now (heads .exit)) (now (inputs .exit)) ⌝ }
 {
-    match build::build(bytes, n, nums, dens, heads, inputs) {
-        Step::Done => steps::placed(0, close::close(nums, dens, n, heads, inputs, 0), 65),
+    match build::build(bytes, n, nums, dens, heads, inputs, sets) {
+        Step::Done => steps::placed(0, close::close(nums, dens, n, heads, inputs, sets, 0), 65),
         Step::Refused(number) => Ran::Ended(Answer::Refused {
             number: number,
             place: 0,

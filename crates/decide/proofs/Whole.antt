@@ -125,11 +125,7 @@ module _ (bytes : List ℕ) (nums dens : List ℤ) where
   unread-left number place long long′ told =
       outcome-long long long′ ∙ ap (λ d. after d nums dens) (decision-refused bytes number place told)
 
--- What holds of a run that goes on.
-pub going-holds : {holds : Type 0} {r : Ran} {solved : ℕ} → r ≡ Going solved → WhileGoing holds r → holds
-unfolding WhileGoing
-going-holds {holds} same h = subst (WhileGoing holds) same h
-
+-- What is said of a run that goes on, and of one that has ended.
 pub going-most : {most : ℕ} {r : Ran} {solved : ℕ} → r ≡ Going solved → AtMost most r → solved ≤ most
 unfolding AtMost
 going-most {most} same h = subst (AtMost most) same h

@@ -36,17 +36,28 @@ fn run_all(
     dens: &mut [i32],
     heads: &mut [u16],
     inputs: &mut [u8],
+    sets: &mut [u64],
 ) -> Ran
     requires { ⌜ Held (now bytes) ⌝ }
     requires { ⌜ (n ≡ field (now bytes) 0 8) × (m ≡ field (now bytes) 8 8) ⌝ }
     requires { ⌜ (4160 ≤ length (now nums)) × (4160 ≤ length (now dens)) ⌝ }
-    requires { ⌜ (length (now heads) ≡ 64) × (length (now inputs) ≡ 192) ⌝ }
+    requires { ⌜ (length (now heads) ≡ 64) × (length (now inputs) ≡ 192) × (length (now sets) ≡ 193) ⌝ }
     ensures { λ r. ⌜ ((problem : Problem) → decoded (now (bytes .entry)) ≡ made problem → rule.run byNumber problem ≡ ran r (tableAt n (now (nums .exit)) (now (dens .exit)))) ⌝ }
     ensures { λ r. ⌜ Kept 0 (65 * n) (now (nums .entry)) (now (dens .entry)) (now (nums .exit)) (now (dens .exit)) ⌝ }
     ensures { λ r. ⌜ WhileGoing (SoundTo (65 * n) (now (nums .exit)) (now (dens .exit))) r ⌝ }
 {
-    match begin::begin(bytes, n, nums, dens, heads, inputs) {
-        Ran::Going(solved) => assume::assume_all(bytes, n, m, nums, dens, heads, inputs, solved),
+    match begin::begin(bytes, n, nums, dens, heads, inputs, sets) {
+        Ran::Going(solved) => assume::assume_all(
+            bytes,
+            n,
+            m,
+            nums,
+            dens,
+            heads,
+            inputs,
+            sets,
+            solved,
+        ),
         Ran::Ended(answer) => Ran::Ended(answer),
     }
 }
@@ -60,7 +71,17 @@ fn decide_sound(bytes: &[u8], header: Header, nums: &mut [i32], dens: &mut [i32]
     let n = header.n;
     let mut heads = [0u16; 64];
     let mut inputs = [0u8; 192];
-    match run_all(bytes, n, header.m, nums, dens, &mut heads, &mut inputs) {
+    let mut sets = [0u64; 193];
+    match run_all(
+        bytes,
+        n,
+        header.m,
+        nums,
+        dens,
+        &mut heads,
+        &mut inputs,
+        &mut sets,
+    ) {
         Ran::Going(solved) => finish::with_rows(nums, dens, n, header.left, header.right, solved),
         Ran::Ended(answer) => finish::cleared(nums, dens, answer),
     }

@@ -1,5 +1,6 @@
 -- `decide::decide_sound` meets its contract. Assumes nothing.
-use Rattle.decide.proofs.Whole.{read-facts, going-holds, sound-rows, sound-cleared}
+use Rattle.begin.proofs.Stages.{going-holds}
+use Rattle.decide.proofs.Whole.{read-facts, sound-rows, sound-cleared}
 use borrow.Author.Needs.{needs}
 use Rattle.decide.proofs.decide_sound.Statement.{statement}
 use Rattle.decide.proofs.decide_sound.Tie as tie
@@ -10,9 +11,12 @@ slice-aggregate-run-all c = search needs
 slice-aggregate-run-all-2 : tie.Need-slice-aggregate-run-all-2
 slice-aggregate-run-all-2 c = search needs
 
+slice-aggregate-run-all-3 : tie.Need-slice-aggregate-run-all-3
+slice-aggregate-run-all-3 c = search needs
+
 run-all-requires : tie.Need-run-all-requires
 run-all-requires c κs =
-    let start = c .before .before .before .before .before in
+    let start = c .before .before .before .before .before .before in
     let facts = read-facts _ _ (start .pre .0) in
     (record { problem = facts .problem; same = facts .held }, ((facts .terms, facts .pairs), (search needs, search needs)))
 
@@ -21,9 +25,9 @@ enum-known-solved c = search needs
 
 with-rows-requires : tie.Need-with-rows-requires
 with-rows-requires c κs =
-    let start = c .before .before .before .before .before .before .before .before .before .before .before .before .before .before .before in
+    let start = c .before .before .before .before .before .before .before .before .before .before .before .before .before .before .before .before .before in
     let facts = read-facts _ _ (start .pre .0) in
-    let ran-so = c .before .before .before .before .before .before .before .before .before .run-all .ensures in
+    let ran-so = c .before .before .before .before .before .before .before .before .before .before .run-all .ensures in
     ((facts .few, facts .left-below, facts .right-below), (search needs, going-holds (c .before .before .before .solved .given .1) (ran-so .1 .1)))
 
 enum-known-answer : tie.Need-enum-known-answer
@@ -40,9 +44,9 @@ same-length-2 c = search needs
 
 returns : tie.Need-returns
 returns c =
-    let start = c .before .before .before .before .before .before .before .before .before .before .before .before .before .before .before .before .before .before in
+    let start = c .before .before .before .before .before .before .before .before .before .before .before .before .before .before .before .before .before .before .before .before in
     let facts = read-facts _ _ (start .pre .0) in
-    let ran-so = c .before .before .before .before .before .before .before .before .before .before .before .before .run-all .ensures in
+    let ran-so = c .before .before .before .before .before .before .before .before .before .before .before .before .before .run-all .ensures in
     sound-rows _ _ facts _ _ _ _ _ _ _ _ _ (ran-so .0 (facts .problem) (facts .held)) (c .before .before .before .before .before .before .solved .given .1) (ran-so .1 .0) (c .before .before .with-rows .ensures)
 
 same-length-3 : tie.Need-same-length-3
@@ -53,9 +57,9 @@ same-length-4 c = search needs
 
 returns-2 : tie.Need-returns-2
 returns-2 c =
-    let start = c .before .before .before .before .before .before .before .before .before .before .before .before .before .before .before .before .before .before in
+    let start = c .before .before .before .before .before .before .before .before .before .before .before .before .before .before .before .before .before .before .before .before in
     let facts = read-facts _ _ (start .pre .0) in
-    let ran-so = c .before .before .before .before .before .before .before .before .before .before .before .before .run-all .ensures in
+    let ran-so = c .before .before .before .before .before .before .before .before .before .before .before .before .before .run-all .ensures in
     sound-cleared _ _ facts _ _ _ _ _ _ _ _ _ (ran-so .0 (facts .problem) (facts .held)) (c .before .before .before .before .before .before .answer .given .1) (ran-so .1 .0) (c .before .before .cleared .ensures)
 
 pub decide-sound-spec : {M : Type 1} → statement M
@@ -64,6 +68,7 @@ decide-sound-spec =
     (tie.spec
     slice-aggregate-run-all
     slice-aggregate-run-all-2
+    slice-aggregate-run-all-3
     run-all-requires
     enum-known-solved
     with-rows-requires

@@ -1,9 +1,10 @@
 -- The test of two rows, number by number.
--- Main results: `equal-numbers`, `unequal-numbers`, `same-step`, `row-itself`, `same-rows`, `differing-rows`. Assume nothing.
+-- Main results: `equal-numbers`, `unequal-numbers`, `same-step`, `same-skips`, `same-outside`, `row-itself`, `same-rows`, `differing-rows`. Assume nothing.
 use mathlib.Core.Path.{_≡_, refl, sym, ap, ap₂, _∙_}
 use mathlib.Core.Bool.{Bool, true, false, _&&_, false≢true}
 use mathlib.Core.List.{List}
 use Prim.Native.Nat.{ℕ, zero, suc, _+_, _-_, _*_, _<_, _≤_}
+use native.Mathlib.Decide.{decLt}
 use native.Mathlib.Omega.{arith}
 use lib.IntN.{ℤ, pos}
 use lib.ListN.{getD}
@@ -19,7 +20,10 @@ use Rattle.arithmetic.proofs.Operations.{good-num, good-den}
 use Rattle.run.specs.Row.{Row, Table, TERMS, COLUMNS, column, rowOf, cell, sameTo, sameRow}
 use Rattle.invariant.proofs.Rows.{sameRow-equal}
 use Rattle.table.specs.Held.{heldAt, rowAt, tableAt, SoundTo}
+use Rattle.bits.specs.Sets.{holds}
+use Rattle.table.specs.Sparse.{Within}
 use Rattle.table.proofs.Columns.{column-held, row-held}
+use Rattle.table.proofs.Sparse.{zero-numerator}
 
 word-one-to-one : {x y : ℤ} → SFits w32 x → SFits w32 y → ofZ w32 x ≡ ofZ w32 y → x ≡ y
 word-one-to-one p q e = sym (toZ-ofZ p) ∙ ap (toZ w32) e ∙ toZ-ofZ q
@@ -41,12 +45,32 @@ unequal-numbers {f} {g} p q word other = by (eqℚ (value f) (value g)) refl
     by false e = refl
 
 -- The test of the first columns begins with the last of them.
-pub same-step : (nums dens : List ℤ) (left right c : ℕ) {a b : Fraction} {test : Bool} → 0 < c → c ≤ 65 → a ≡ heldAt nums dens (left + (c - 1)) → b ≡ heldAt nums dens (right + (c - 1)) → test ≡ eqℚ (value a) (value b) → sameTo c (rowAt nums dens left) (rowAt nums dens right) ≡ test && sameTo (c - 1) (rowAt nums dens left) (rowAt nums dens right)
-unfolding sameTo COLUMNS TERMS
-same-step nums dens left right zero some within p q e = absurd (omega arith)
-same-step nums dens left right (suc c) some within p q e =
+pub same-step : (c : ℕ) (r s : Row) {test : Bool} → 0 < c → test ≡ eqℚ (column r (c - 1)) (column s (c - 1)) → sameTo c r s ≡ test && sameTo (c - 1) r s
+unfolding sameTo
+same-step zero r s some e = absurd (omega arith)
+same-step (suc c) r s some e =
     let before : suc c - 1 ≡ c = omega arith in
-    rw (e, p, q, before, column-held nums dens left c, column-held nums dens right c)
+    rw (e, before)
+
+-- Columns in which both rows hold the same need no test.
+pub same-skips : (from c : ℕ) (r s : Row) → from ≤ c → ((k : ℕ) → from ≤ k → k < c → column r k ≡ column s k) → sameTo c r s ≡ sameTo from r s
+same-skips from zero r s below all = ap (λ k. sameTo k r s) (omega arith)
+same-skips from (suc c) r s below all = by (decLt c from) (λ inside. same-skips from c r s inside (λ k low high. all k low (omega arith)))
+  where
+    by : Dec (c < from) → (from ≤ c → sameTo c r s ≡ sameTo from r s) → sameTo (suc c) r s ≡ sameTo from r s
+    by (yes over) rest = ap (λ k. sameTo k r s) (omega arith)
+    by (no inside) rest =
+        let before : suc c - 1 ≡ c = omega arith in
+        let same : true ≡ eqℚ (column r (suc c - 1)) (column s (suc c - 1)) = sym (ap (λ k. eqℚ (column r k) (column s k)) before ∙ eqℚ-same (all c (omega arith) (omega arith))) in
+        same-step (suc c) r s (omega arith) same ∙ ap (λ k. sameTo k r s) before ∙ rest (omega arith)
+
+-- Outside a set that both rows are within, they hold the same.
+pub same-outside : {set left right : ℕ} (nums dens : List ℤ) (c : ℕ) → c < 64 → SoundTo (left + 65) nums dens → SoundTo (right + 65) nums dens → Within set left nums → Within set right nums → holds set c ≡ false → column (rowAt nums dens left) c ≡ column (rowAt nums dens right) c
+unfolding COLUMNS TERMS
+same-outside {set} {left} {right} nums dens c below sound-left sound-right within-left within-right out =
+    column-held nums dens left c (omega arith)
+    ∙ zero-numerator (sound-left .good (left + c) (omega arith)) (within-left .zero c below out)
+    ∙ sym (column-held nums dens right c (omega arith) ∙ zero-numerator (sound-right .good (right + c) (omega arith)) (within-right .zero c below out))
 
 same-self : (columns : ℕ) (r : Row) → sameTo columns r r ≡ true
 unfolding sameTo

@@ -1,6 +1,7 @@
 // When two terms have equal rows.
 use fraction::Fraction;
 use table::COLUMNS;
+use table::TERMS;
 use table::get;
 ghost use mathlib.Core.Path.{_≡_};
 ghost use Prim.Native.Nat.{_+_, _*_, _<_, _≤_};
@@ -9,8 +10,9 @@ ghost use lib.ListN.{length, getD};
 ghost use lib.IntN.{pos};
 ghost use Rattle.fraction.specs.Exact.{value, eqℚ};
 ghost use Rattle.arithmetic.specs.Values.{Good};
-ghost use Rattle.run.specs.Row.{COLUMNS, sameTo, sameRow};
+ghost use Rattle.run.specs.Row.{COLUMNS, column, sameTo, sameRow};
 ghost use Rattle.table.specs.Held.{rowAt, tableAt, SoundTo};
+ghost use Rattle.table.specs.Sparse.{Within};
 
 // In lowest terms, equal fractions have the same two numbers.
 fn same_fraction(a: Fraction, b: Fraction) -> bool
@@ -26,22 +28,37 @@ fn same_fraction(a: Fraction, b: Fraction) -> bool
     false
 }
 
-// The rows at places left and right, from the last column down to the first difference.
-fn same_places(nums: &[i32], dens: &[i32], left: usize, right: usize) -> bool
+// Whether the rows at places left and right hold the same number in column c.
+fn same_at(nums: &[i32], dens: &[i32], left: usize, right: usize, c: usize) -> bool
+    requires { ⌜ (left + 65 ≤ 4160) × (right + 65 ≤ 4160) × (c < 65) ⌝ }
+    requires { ⌜ (4160 ≤ length (now nums)) × (4160 ≤ length (now dens)) ⌝ }
+    requires { ⌜ SoundTo (left + 65) (now nums) (now dens) ⌝ }
+    requires { ⌜ SoundTo (right + 65) (now nums) (now dens) ⌝ }
+    ensures { λ r. ⌜ r ≡ eqℚ (column (rowAt (now (nums .entry)) (now (dens .entry)) left) c) (column (rowAt (now (nums .entry)) (now (dens .entry)) right) c) ⌝ }
+{
+    let a = get(nums, dens, left + c);
+    let b = get(nums, dens, right + c);
+    same_fraction(a, b)
+}
+
+// The rows at places left and right: the constant, then the columns of the set from the last down to the first difference.
+fn same_places(nums: &[i32], dens: &[i32], left: usize, right: usize, set: u64) -> bool
     requires { ⌜ (left + 65 ≤ 4160) × (right + 65 ≤ 4160) ⌝ }
     requires { ⌜ (4160 ≤ length (now nums)) × (4160 ≤ length (now dens)) ⌝ }
     requires { ⌜ SoundTo (left + 65) (now nums) (now dens) ⌝ }
     requires { ⌜ SoundTo (right + 65) (now nums) (now dens) ⌝ }
+    requires { ⌜ Within set left (now nums) × Within set right (now nums) ⌝ }
     ensures { λ r. ⌜ r ≡ sameTo COLUMNS (rowAt (now (nums .entry)) (now (dens .entry)) left) (rowAt (now (nums .entry)) (now (dens .entry)) right) ⌝ }
 {
-    let mut c = COLUMNS;
+    if !same_at(nums, dens, left, right, TERMS) {
+        return false;
+    }
+    let mut c = bits::last(set, TERMS);
     while 0 < c {
-        c -= 1;
-        let a = get(nums, dens, left + c);
-        let b = get(nums, dens, right + c);
-        if !same_fraction(a, b) {
+        if !same_at(nums, dens, left, right, c - 1) {
             return false;
         }
+        c = bits::last(set, c - 1);
     }
     true
 }
@@ -55,11 +72,12 @@ fn differ_at(nums: &[i32], t: usize, u: usize, c: usize) -> bool
 }
 
 // Whether terms t and u, of n, have equal rows. An unknown that is not solved stands in its own column, where the rows before
-// hold 0: the columns of t and u are looked at first.
-pub fn same_row(nums: &[i32], dens: &[i32], n: usize, t: usize, u: usize) -> bool
+// hold 0: the columns of t and u are looked at first. Both rows are 0 outside the set.
+pub fn same_row(nums: &[i32], dens: &[i32], n: usize, t: usize, u: usize, set: u64) -> bool
     requires { ⌜ (t < n) × (u < n) × (n ≤ 64) ⌝ }
     requires { ⌜ (4160 ≤ length (now nums)) × (4160 ≤ length (now dens)) ⌝ }
     requires { ⌜ SoundTo (65 * n) (now nums) (now dens) ⌝ }
+    requires { ⌜ Within set (65 * t) (now nums) × Within set (65 * u) (now nums) ⌝ }
     ensures { λ r. ⌜ r ≡ sameRow (tableAt n (now (nums .entry)) (now (dens .entry))) t u ⌝ }
 {
     if t == u {
@@ -71,5 +89,5 @@ pub fn same_row(nums: &[i32], dens: &[i32], n: usize, t: usize, u: usize) -> boo
     if differ_at(nums, t, u, t) {
         return false;
     }
-    same_places(nums, dens, COLUMNS * t, COLUMNS * u)
+    same_places(nums, dens, COLUMNS * t, COLUMNS * u, set)
 }

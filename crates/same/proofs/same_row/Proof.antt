@@ -16,7 +16,7 @@ returns-2 : tie.Need-returns-2
 returns-2 c =
     let start = c .before .before .before in
     let args = start .args in
-    sym (differing-rows (args .n) (args .nums .now) (args .dens .now) (args .t) (args .u) (args .u) (search needs) (search needs) (search needs) (start .pre .1 .1) (c .if2 .taken) (c .before .differ-at .ensures))
+    sym (differing-rows (args .n) (args .nums .now) (args .dens .now) (args .t) (args .u) (args .u) (search needs) (search needs) (search needs) (start .pre .1 .1 .0) (c .if2 .taken) (c .before .differ-at .ensures))
 
 differ-at-requires-2 : tie.Need-differ-at-requires-2
 differ-at-requires-2 c κs = search needs
@@ -25,7 +25,7 @@ returns-3 : tie.Need-returns-3
 returns-3 c =
     let start = c .before .before .before .before .before in
     let args = start .args in
-    sym (differing-rows (args .n) (args .nums .now) (args .dens .now) (args .t) (args .u) (args .t) (search needs) (search needs) (search needs) (start .pre .1 .1) (c .if3 .taken) (c .before .differ-at2 .ensures))
+    sym (differing-rows (args .n) (args .nums .now) (args .dens .now) (args .t) (args .u) (args .t) (search needs) (search needs) (search needs) (start .pre .1 .1 .0) (c .if3 .taken) (c .before .differ-at2 .ensures))
 
 mul-same-places : tie.Need-mul-same-places
 mul-same-places c = search needs
@@ -35,8 +35,8 @@ mul-same-places-2 c = search needs
 
 same-places-requires : tie.Need-same-places-requires
 same-places-requires c κs =
-    let sound = c .before .before .before .before .before .pre .1 .1 in
-    (search needs, (search needs, (sound-fewer _ (omega arith) sound, sound-fewer _ (omega arith) sound)))
+    let pre = c .before .before .before .before .before .pre .1 .1 in
+    (search needs, (search needs, (sound-fewer _ (omega arith) (pre .0), (sound-fewer _ (omega arith) (pre .0), pre .1))))
 
 returns-4 : tie.Need-returns-4
 returns-4 c =

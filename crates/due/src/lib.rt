@@ -12,10 +12,11 @@ ghost use Rattle.bits.specs.Sets.{holds};
 ghost use Rattle.problem.specs.declared.Kind.{Kind};
 ghost use Rattle.problem.specs.declared.Term.{Term};
 ghost use Rattle.problem.specs.Lookup.{alike};
+ghost use Rattle.run.specs.Row.{sameRow};
 ghost use Rattle.run.specs.Close.{isDue, due};
 ghost use Rattle.table.specs.Calls.{headOf};
 ghost use Rattle.table.specs.Held.{tableAt, SoundTo};
-ghost use Rattle.table.specs.Sparse.{earlierOf, pendingOf, Linked};
+ghost use Rattle.table.specs.Sparse.{earlierOf, pendingOf, Linked, Sparse};
 ghost use Rattle.due.specs.Found.{symbolOf, Lookups, InputsBelow, sameInput, sameInputs, leftFor, pairOf, Below, Awake};
 
 // The pair due, of the smallest right and then the smallest left; or none is.
@@ -36,67 +37,93 @@ fn same_function(heads: &[u16], i: usize, j: usize) -> bool
     head == heads[j]
 }
 
+// Whether two terms have equal rows, looked for in the columns of both.
+fn same_terms(nums: &[i32], dens: &[i32], n: usize, sets: &[u64], t: usize, u: usize) -> bool
+    requires { ⌜ (t < n) × (u < n) × (n ≤ 64) ⌝ }
+    requires { ⌜ (4160 ≤ length (now nums)) × (4160 ≤ length (now dens)) × (193 ≤ length (now sets)) ⌝ }
+    requires { ⌜ SoundTo (65 * n) (now nums) (now dens) ⌝ }
+    requires { ⌜ Sparse n (now nums) (now sets) ⌝ }
+    ensures { λ r. ⌜ r ≡ sameRow (tableAt n (now (nums .entry)) (now (dens .entry))) t u ⌝ }
+{
+    let set = bits::union(sets[t], sets[u]);
+    same_row(nums, dens, n, t, u, set)
+}
+
 // Whether the inputs of i and j at one place have equal rows. Unused places hold 0 on both sides.
 fn same_input(
     nums: &[i32],
     dens: &[i32],
     n: usize,
     inputs: &[u8],
+    sets: &[u64],
     i: usize,
     j: usize,
     k: usize,
 ) -> bool
     requires { ⌜ (i < n) × (j < n) × (k < 3) × (n ≤ 64) ⌝ }
-    requires { ⌜ (4160 ≤ length (now nums)) × (4160 ≤ length (now dens)) × (192 ≤ length (now inputs)) ⌝ }
+    requires { ⌜ (4160 ≤ length (now nums)) × (4160 ≤ length (now dens)) × (192 ≤ length (now inputs)) × (193 ≤ length (now sets)) ⌝ }
     requires { ⌜ SoundTo (65 * n) (now nums) (now dens) ⌝ }
     requires { ⌜ InputsBelow n (now inputs) ⌝ }
+    requires { ⌜ Sparse n (now nums) (now sets) ⌝ }
     ensures { λ r. ⌜ r ≡ sameInput (tableAt n (now (nums .entry)) (now (dens .entry))) (now (inputs .entry)) i j k ⌝ }
 {
     let t = inputs[3 * i + k] as usize;
     let u = inputs[3 * j + k] as usize;
-    same_row(nums, dens, n, t, u)
+    same_terms(nums, dens, n, sets, t, u)
 }
 
-fn same_inputs(nums: &[i32], dens: &[i32], n: usize, inputs: &[u8], i: usize, j: usize) -> bool
+fn same_inputs(
+    nums: &[i32],
+    dens: &[i32],
+    n: usize,
+    inputs: &[u8],
+    sets: &[u64],
+    i: usize,
+    j: usize,
+) -> bool
     requires { ⌜ (i < n) × (j < n) × (n ≤ 64) ⌝ }
-    requires { ⌜ (4160 ≤ length (now nums)) × (4160 ≤ length (now dens)) × (192 ≤ length (now inputs)) ⌝ }
+    requires { ⌜ (4160 ≤ length (now nums)) × (4160 ≤ length (now dens)) × (192 ≤ length (now inputs)) × (193 ≤ length (now sets)) ⌝ }
     requires { ⌜ SoundTo (65 * n) (now nums) (now dens) ⌝ }
     requires { ⌜ InputsBelow n (now inputs) ⌝ }
+    requires { ⌜ Sparse n (now nums) (now sets) ⌝ }
     ensures { λ r. ⌜ r ≡ sameInputs (tableAt n (now (nums .entry)) (now (dens .entry))) (now (inputs .entry)) i j ⌝ }
 {
-    if !same_input(nums, dens, n, inputs, i, j, 0) {
+    if !same_input(nums, dens, n, inputs, sets, i, j, 0) {
         return false;
     }
-    if !same_input(nums, dens, n, inputs, i, j, 1) {
+    if !same_input(nums, dens, n, inputs, sets, i, j, 1) {
         return false;
     }
-    same_input(nums, dens, n, inputs, i, j, 2)
+    same_input(nums, dens, n, inputs, sets, i, j, 2)
 }
 
-// 01, Close: lookups with the same kind and symbol, inputs with equal rows place by place, and unequal rows of their own.
+// 01, Close: lookups with the same kind and symbol, inputs with equal rows place by place, and unequal rows of their own. Those are
+// looked at before the inputs: most pairs that are not due differ nowhere else, since they were merged.
 fn is_due(
     nums: &[i32],
     dens: &[i32],
     n: usize,
     heads: &[u16],
     inputs: &[u8],
+    sets: &[u64],
     i: usize,
     j: usize,
 ) -> bool
     requires { ⌜ (i < j) × (j < n) × (n ≤ 64) ⌝ }
     requires { ⌜ (4160 ≤ length (now nums)) × (4160 ≤ length (now dens)) ⌝ }
-    requires { ⌜ (64 ≤ length (now heads)) × (192 ≤ length (now inputs)) ⌝ }
+    requires { ⌜ (64 ≤ length (now heads)) × (192 ≤ length (now inputs)) × (193 ≤ length (now sets)) ⌝ }
     requires { ⌜ SoundTo (65 * n) (now nums) (now dens) ⌝ }
     requires { ⌜ InputsBelow n (now inputs) ⌝ }
+    requires { ⌜ Sparse n (now nums) (now sets) ⌝ }
     ensures { λ r. ⌜ ((terms : List Term) → Lookups terms n (now (heads .entry)) (now (inputs .entry)) → r ≡ isDue terms (tableAt n (now (nums .entry)) (now (dens .entry))) i j) ⌝ }
 {
     if !same_function(heads, i, j) {
         return false;
     }
-    if !same_inputs(nums, dens, n, inputs, i, j) {
+    if same_terms(nums, dens, n, sets, i, j) {
         return false;
     }
-    !same_row(nums, dens, n, i, j)
+    same_inputs(nums, dens, n, inputs, sets, i, j)
 }
 
 // The lookups before j that j is compared with: those of its function, all of them if j is pending, else those that are.
@@ -128,13 +155,14 @@ fn left_due(
     requires { ⌜ SoundTo (65 * n) (now nums) (now dens) ⌝ }
     requires { ⌜ InputsBelow n (now inputs) ⌝ }
     requires { ⌜ Linked n (now heads) (now inputs) (now sets) ⌝ }
+    requires { ⌜ Sparse n (now nums) (now sets) ⌝ }
     ensures { λ r. ⌜ ((terms : List Term) → Lookups terms n (now (heads .entry)) (now (inputs .entry)) → Awake terms n (tableAt n (now (nums .entry)) (now (dens .entry))) (now (sets .entry)) → leftFor terms (tableAt n (now (nums .entry)) (now (dens .entry))) j ≡ pairOf r) ⌝ }
     ensures { λ r. ⌜ Below n r ⌝ }
 {
     let lefts = candidates(sets, j);
     let mut i = bits::next(lefts, 0);
     while i < j {
-        if is_due(nums, dens, n, heads, inputs, i, j) {
+        if is_due(nums, dens, n, heads, inputs, sets, i, j) {
             return Due::Pair { left: i, right: j };
         }
         i = bits::next(lefts, i + 1);
@@ -157,6 +185,7 @@ pub fn find_due(
     requires { ⌜ SoundTo (65 * n) (now nums) (now dens) ⌝ }
     requires { ⌜ InputsBelow n (now inputs) ⌝ }
     requires { ⌜ Linked n (now heads) (now inputs) (now sets) ⌝ }
+    requires { ⌜ Sparse n (now nums) (now sets) ⌝ }
     ensures { λ r. ⌜ ((terms : List Term) → Lookups terms n (now (heads .entry)) (now (inputs .entry)) → Awake terms n (tableAt n (now (nums .entry)) (now (dens .entry))) (now (sets .entry)) → due terms (tableAt n (now (nums .entry)) (now (dens .entry))) ≡ pairOf r) ⌝ }
     ensures { λ r. ⌜ Below n r ⌝ }
 {

@@ -27,7 +27,7 @@ pub fn with_rows(
     requires { ⌜ SoundTo (65 * n) (now nums) (now dens) ⌝ }
     ensures { λ r. ⌜ after (finished (judged (record { left = left; right = right }) (record { table = tableAt n (now (nums .entry)) (now (dens .entry)); solved = solved })) (tableAt n (now (nums .entry)) (now (dens .entry)))) (now (nums .entry)) (now (dens .entry)) ≡ leaves r (now (nums .exit)) (now (dens .exit)) ⌝ }
 {
-    let same = same::same_row(nums, dens, n, left, right);
+    let same = same::same_row(nums, dens, n, left, right, bits::ALL);
     fill::fill(nums, COLUMNS * n, PLACES, 0);
     fill::fill(dens, COLUMNS * n, PLACES, 1);
     if same {

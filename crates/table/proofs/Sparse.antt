@@ -1,8 +1,8 @@
 -- Loops that go from column to column of a set, and what the sets of a run say after a step.
--- Main results: `making-skips`, `zero-numerator`, `within-value`, `within-set`, `within-other`, `within-stores`, `within-more`, `stirred-itself`. Assume nothing.
+-- Main results: `making-skips`, `zero-numerator`, `within-value`, `within-set`, `within-other`, `within-stores`, `within-more`, `within-left`, `within-right`, `within-all`, `stirred-itself`. Assume nothing.
 use mathlib.Core.Path.{_≡_, refl, sym, ap, _∙_, subst}
 use mathlib.Core.Logic.{_⊎_, inl, inr, _≢_}
-use mathlib.Core.Bool.{true, false, false≢true}
+use mathlib.Core.Bool.{Bool, true, false, _||_, false≢true}
 use mathlib.Core.List.{List}
 use Prim.Native.Nat.{ℕ, _+_, _≤_, _<_}
 use native.Mathlib.Decide.{decLt}
@@ -17,6 +17,7 @@ use Rattle.fraction.specs.Exact.{ℚ, value, zeroℚ}
 use Rattle.fraction.specs.Made.{Made, made}
 use Rattle.arithmetic.specs.Values.{Good}
 use Rattle.arithmetic.proofs.Tests.{zero-value}
+use Rattle.bits.proofs.Digits.{holds-all}
 use Rattle.bits.specs.Sets.{holds, Next}
 use Rattle.table.specs.Held.{heldAt, SoundTo}
 use Rattle.table.specs.Loop.{Making}
@@ -77,6 +78,22 @@ within-stores {s} {base} {at = at} x {nums = nums} next within there stored =
 -- A larger set has room for the row too.
 pub within-more : {s r base : ℕ} {nums : List ℤ} → ((c : ℕ) → holds r c ≡ false → holds s c ≡ false) → Within s base nums → Within r base nums
 within-more covers within = record { zero = λ c below out. within .zero c below (covers c out) }
+
+neither : (a b : Bool) → (a || b) ≡ false → (a ≡ false) × (b ≡ false)
+neither true b e = (e, absurd (false≢true (sym e)))
+neither false b e = (refl, e)
+
+module _ (a b : ℕ) {either base : ℕ} {nums : List ℤ} (union : (k : ℕ) → holds either k ≡ (holds a k || holds b k)) where
+  -- What is within one of two sets is within their union.
+  pub within-left : Within a base nums → Within either base nums
+  within-left = within-more (λ c out. neither (holds a c) (holds b c) (sym (union c) ∙ out) .0)
+
+  pub within-right : Within b base nums → Within either base nums
+  within-right = within-more (λ c out. neither (holds a c) (holds b c) (sym (union c) ∙ out) .1)
+
+-- Every row is within the set of all terms.
+pub within-all : (base : ℕ) (nums : List ℤ) → Within 18446744073709551615 base nums
+within-all base nums = record { zero = λ c below out. absurd (false≢true (sym out ∙ holds-all c below)) }
 
 -- Where nothing is done, nothing is stirred.
 pub stirred-itself : (n : ℕ) (nums dens : List ℤ) (sets : List ℕ) → Stirred n nums dens nums dens sets sets

@@ -26,7 +26,7 @@ find-due-requires : tie.Need-find-due-requires Inv-loop μ-loop
 find-due-requires c κs =
     let start = c .before .before .before .before .before .before .before .before in
     let closing = c .before .before .before .before .loop .inv in
-    (start .pre .0 .0, (search needs, ((start .pre .1 .1 .0 .0, start .pre .1 .1 .0 .1, omega (arith, closing .ready .size)), (closing .sound, (start .pre .1 .1 .1 .1 .0, closing .ready .linked)))))
+    (start .pre .0 .0, (search needs, ((start .pre .1 .1 .0 .0, start .pre .1 .1 .0 .1, omega (arith, closing .ready .size)), (closing .sound, (start .pre .1 .1 .1 .1 .0, (closing .ready .linked, closing .ready .sparse))))))
 
 enum-told : tie.Need-enum-told Inv-loop μ-loop
 enum-told c = search needs

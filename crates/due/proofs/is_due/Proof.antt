@@ -1,11 +1,13 @@
+-- `due::is_due` meets its contract. Assumes nothing.
 use borrow.Author.Needs.{needs}
 use borrow.Author.Tests.{not-true, not-false}
 use mathlib.Core.Path.{_≡_, sym, _∙_}
 use mathlib.Core.List.{List}
+use Rattle.table.specs.Held.{tableAt}
 use Rattle.problem.specs.declared.Term.{Term}
 use Rattle.problem.specs.Lookup.{alike, kindAt}
-use Rattle.due.specs.Found.{Lookups}
-use Rattle.due.proofs.Heads.{due-alike, due-unlike}
+use Rattle.due.specs.Found.{Lookups, sameInputs}
+use Rattle.due.proofs.Heads.{due-alike, due-unlike, merged-already, inputs-decide}
 use Rattle.due.proofs.is_due.Statement.{statement}
 use Rattle.due.proofs.is_due.Tie as tie
 
@@ -13,35 +15,38 @@ same-function-requires : tie.Need-same-function-requires
 same-function-requires c κs = search needs
 
 -- the answer on the heads is the rule's
-alike-is : (c : tie.After-same-function) (terms : List Term) → Lookups terms (c .before .before .before .args .n) (c .before .before .before .args .heads .now) (c .before .before .before .args .inputs .now) → c .same-function .result ≡ alike (kindAt terms (c .before .before .before .args .i)) (kindAt terms (c .before .before .before .args .j))
+alike-is : (c : tie.After-same-function) (terms : List Term) → Lookups terms (c .before .before .before .before .args .n) (c .before .before .before .before .args .heads .now) (c .before .before .before .before .args .inputs .now) → c .same-function .result ≡ alike (kindAt terms (c .before .before .before .before .args .i)) (kindAt terms (c .before .before .before .before .args .j))
 alike-is c terms lookups =
-    let i = c .before .before .before .args .i in
-    let j = c .before .before .before .args .j in
+    let i = c .before .before .before .before .args .i in
+    let j = c .before .before .before .before .args .j in
     c .same-function .ensures (kindAt terms i) (kindAt terms j) (lookups .calls .head i (search needs)) (lookups .calls .head j (search needs)) (lookups .symbols i (search needs)) (lookups .symbols j (search needs))
 
 returns : tie.Need-returns
 returns c = λ terms lookups.
     sym (due-unlike terms _ _ _ lookups _ _ _ (search needs) (search needs) (sym (alike-is (c .before) terms lookups) ∙ not-true (c .before .same-function .result) (c .if1 .taken)))
 
-same-inputs-requires : tie.Need-same-inputs-requires
-same-inputs-requires c κs = search needs
+same-terms-requires : tie.Need-same-terms-requires
+same-terms-requires c κs = search needs
 
 returns-2 : tie.Need-returns-2
 returns-2 c = λ terms lookups.
     let first = c .before .before .before in
-    let test = c .before .same-inputs in
+    let args = first .before .before .before .before .args in
+    let test = c .before .same-terms in
     sym (due-alike terms _ _ _ lookups _ _ _ (search needs) (search needs) (sym (alike-is first terms lookups) ∙ not-false (first .same-function .result) (c .before .before .if1 .left))
-    ∙ rw (← (test .ensures), not-true (test .result) (c .if2 .taken)))
+    ∙ merged-already (sameInputs (tableAt (args .n) (args .nums .now) (args .dens .now)) (args .inputs .now) (args .i) (args .j)) (sym (test .ensures) ∙ c .if2 .taken))
 
-same-row-requires : tie.Need-same-row-requires
-same-row-requires c κs = search needs
+same-inputs-requires : tie.Need-same-inputs-requires
+same-inputs-requires c κs = search needs
 
 returns-3 : tie.Need-returns-3
 returns-3 c = λ terms lookups.
     let first = c .before .before .before .before in
-    let test = c .before .before .same-inputs in
-    sym (due-alike terms _ _ _ lookups _ _ _ (search needs) (search needs) (sym (alike-is first terms lookups) ∙ not-false (first .same-function .result) (c .before .before .before .if1 .left))
-    ∙ rw (← (test .ensures), not-false (test .result) (c .before .if2 .left), ← (c .same-row .ensures)))
+    let args = first .before .before .before .before .args in
+    let test = c .before .before .same-terms in
+    c .same-inputs .ensures
+    ∙ sym (due-alike terms _ _ _ lookups _ _ _ (search needs) (search needs) (sym (alike-is first terms lookups) ∙ not-false (first .same-function .result) (c .before .before .before .if1 .left))
+    ∙ inputs-decide (sameInputs (tableAt (args .n) (args .nums .now) (args .dens .now)) (args .inputs .now) (args .i) (args .j)) (sym (test .ensures) ∙ c .before .if2 .left))
 
 pub is-due-spec : {M : Type 1} → statement M
 is-due-spec =
@@ -49,7 +54,7 @@ is-due-spec =
     (tie.spec
     same-function-requires
     returns
-    same-inputs-requires
+    same-terms-requires
     returns-2
-    same-row-requires
+    same-inputs-requires
     returns-3)

@@ -40,7 +40,7 @@ on-from : (c : tie.After-candidates Inv-loop μ-loop) {from on : ℕ} → Next (
 on-from c {from} {on} next terms (lookups, awake) =
     let start = c .before .before .before .before in
     first-skips _ (start .args .j) from on (next .forward) λ k above short low.
-    passed-over awake lookups (start .pre .1 .1 .1 .1 .1) (c .candidates .result) (start .args .j) (start .pre .0 .0) (c .candidates .ensures) k low (next .none-between k above short)
+    passed-over awake lookups (start .pre .1 .1 .1 .1 .1 .0) (c .candidates .result) (start .args .j) (start .pre .0 .0) (c .candidates .ensures) k low (next .none-between k above short)
 
 loop-holds : tie.Need-loop-holds Inv-loop μ-loop
 loop-holds c terms lookups awake = left-searched terms _ _ ∙ on-from (c .before) (c .next .ensures) terms (lookups, awake)
@@ -48,7 +48,7 @@ loop-holds c terms lookups awake = left-searched terms _ _ ∙ on-from (c .befor
 is-due-requires : tie.Need-is-due-requires Inv-loop μ-loop
 is-due-requires c κs =
     let start = c .before .before .before .before .before .before .before in
-    (search needs, (search needs, (search needs, (start .pre .1 .1 .1 .0, start .pre .1 .1 .1 .1 .0))))
+    (search needs, (search needs, (search needs, (start .pre .1 .1 .1 .0, (start .pre .1 .1 .1 .1 .0, start .pre .1 .1 .1 .1 .1 .1)))))
 
 -- the pair of this left side
 given : (c : tie.After-is-due Inv-loop μ-loop) (terms : List Term) → Held-by (c .before .before .before .before .before .before .before .before) terms → pairFor terms (table-of (c .before .before .before .before .before .before .before .before)) (c .before .before .before .before .before .before .before .before .args .j) (c .before .before .loop .i) ≡ cond (c .is-due .result) (some (record { left = c .before .before .loop .i; right = c .before .before .before .before .before .before .before .before .args .j })) none

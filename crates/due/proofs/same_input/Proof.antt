@@ -1,3 +1,4 @@
+-- `due::same_input` meets its contract. Assumes nothing.
 use borrow.Author.Needs.{needs}
 use native.Mathlib.Omega.{arith}
 use Prim.Native.Nat.{_+_, _*_}
@@ -15,7 +16,7 @@ shared-slice-read-t : tie.Need-shared-slice-read-t
 shared-slice-read-t c = search needs
 
 cast-t : tie.Need-cast-t
-cast-t c = omega (arith, c .shared-slice-known2 .given (3 * c .before .before .args .i + c .before .before .args .k))
+cast-t c = omega (arith, c .shared-slice-known3 .given (3 * c .before .before .before .args .i + c .before .before .before .args .k))
 
 mul-u : tie.Need-mul-u
 mul-u c = search needs
@@ -27,19 +28,20 @@ shared-slice-read-u : tie.Need-shared-slice-read-u
 shared-slice-read-u c = search needs
 
 cast-u : tie.Need-cast-u
-cast-u c = omega (arith, c .shared-slice-known3 .given (3 * c .before .before .before .args .j + c .before .before .before .args .k))
+cast-u c = omega (arith, c .shared-slice-known4 .given (3 * c .before .before .before .before .args .j + c .before .before .before .before .args .k))
 
-same-row-requires : tie.Need-same-row-requires
-same-row-requires c κs =
-    let start = c .before .before .before in
-    let below = start .pre .1 .1 .1 .below in
+same-terms-requires : tie.Need-same-terms-requires
+same-terms-requires c κs =
+    let start = c .before .before .before .before in
+    let rest = start .pre .1 .1 in
+    let below = rest .1 .0 .below in
     let left = below (start .args .i) (start .args .k) (search needs) (search needs) in
     let right = below (start .args .j) (start .args .k) (search needs) (search needs) in
-    (search needs, (search needs, start .pre .1 .1 .0))
+    ((left, right, start .pre .0 .3), ((start .pre .1 .0 .0, start .pre .1 .0 .1, start .pre .1 .0 .3), (rest .0, rest .1 .1)))
 
 returns : tie.Need-returns
 unfolding sameInput
-returns c = c .same-row .ensures
+returns c = c .same-terms .ensures
 
 pub same-input-spec : {M : Type 1} → statement M
 same-input-spec =
@@ -53,5 +55,5 @@ same-input-spec =
     add-u
     shared-slice-read-u
     cast-u
-    same-row-requires
+    same-terms-requires
     returns)

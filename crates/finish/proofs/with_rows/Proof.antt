@@ -1,12 +1,13 @@
 -- `finish::with_rows` meets its contract. Assumes nothing.
 use Rattle.run.specs.Run.{judged}
+use Rattle.table.proofs.Sparse.{within-all}
 use Rattle.finish.proofs.Left.{rows-left}
 use borrow.Author.Needs.{needs}
 use Rattle.finish.proofs.with_rows.Statement.{statement}
 use Rattle.finish.proofs.with_rows.Tie as tie
 
 same-row-requires : tie.Need-same-row-requires
-same-row-requires c κs = search needs
+same-row-requires c κs = (search needs, (search needs, (search needs, (within-all _ _, within-all _ _))))
 
 mul-fill : tie.Need-mul-fill
 mul-fill c = search needs

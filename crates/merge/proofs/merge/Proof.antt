@@ -9,7 +9,8 @@ use Rattle.table.specs.Sparse.{columnsOf}
 use Rattle.table.proofs.Columns.{sound-zeros, sound-fewer, kept-itself}
 use Rattle.table.proofs.Turns.{finished-done, finished-refused}
 use Rattle.merge.specs.Outcome.{Unstopped}
-use Rattle.merge.proofs.Sets.{within-left, within-right, within-zeros}
+use Rattle.table.proofs.Sparse.{within-left, within-right}
+use Rattle.merge.proofs.Sets.{within-zeros}
 use Rattle.merge.proofs.Steps.{difference-read, difference-made, difference-refused}
 use borrow.Author.Needs.{needs}
 use Rattle.merge.proofs.merge.Statement.{statement}

@@ -1,17 +1,18 @@
 -- Laws of a field of a bit-packed byte string.
--- Main results: `field-below`, `field-window`. Assume nothing.
+-- Main results: `field-below`, `field-number`, `field-window`, `cut-field`. Assume nothing.
 use mathlib.Core.Path.{_≡_, refl, sym, ap, ap₂, _∙_}
 use mathlib.Core.List.{List}
 use Prim.Native.Nat.{ℕ, zero, suc, _+_, _-_, _*_, _/_, _%_, _^_, _<_, _≤_}
 use native.Mathlib.Omega.{arith}
-use native.Mathlib.Nat.{mod-lt, mod-one, pow-suc, add-assoc, mul-comm, one-mul}
+use native.Mathlib.Nat.{mod-lt, mod-one, pow-suc, zero-add, add-zero, add-assoc, mul-comm, one-mul}
 use native.Mathlib.Numerals.{one-add}
 use native.Mathlib.Decide.{decLt}
 use lib.Arith.{digits-lt}
 use lib.Pow.{mod-pow-add, mod-mod-pow, shr-shr, shl-exact, field as part, high, low}
 use lib.ListN.{getD}
 use Rattle.problem.specs.Bits.{bitAt, field}
-use Rattle.cursor.specs.Taken.{windowAt}
+use Rattle.cursor.specs.declared.Piece.{Piece}
+use Rattle.cursor.specs.Taken.{numberAt, Cut}
 
 -- A field of `width` bits is below 2 ^ width.
 pub field-below : (bytes : List ℕ) (width p : ℕ) → field bytes p width < 2 ^ width
@@ -44,47 +45,52 @@ module _ (bytes : List ℕ) (first : ℕ) (small : (i : ℕ) → getD bytes i 0 
   unfolding bitAt
   byte-bit p i e at-byte at-bit = rw (at-byte, at-bit)
 
-  -- Bit j of the three bytes is the byte string's.
-  bit-window : (j e : ℕ) → j + e ≡ 23 → bitAt bytes (8 * first + j) ≡ windowAt bytes first / 2 ^ e % 2
-  unfolding windowAt
-  bit-window j e h = last (decLt e 8)
+  -- Bit j of the bytes from `first` on is the same bit of their number.
+  bit-number : (count j e : ℕ) → j + e + 1 ≡ 8 * count → bitAt bytes (8 * first + j) ≡ numberAt bytes first count / 2 ^ e % 2
+  unfolding numberAt
+  bit-number zero j e h = absurd (omega arith)
+  bit-number (suc count) j e h = go (decLt e 8) (λ l. bit-number count j (e - 8) (omega arith))
     where
-      p : ℕ
-      p = 8 * first + j
+      byte : ℕ
+      byte = getD bytes (first + count) 0
 
-      middle : 8 ≤ e → Dec (e < 16) → bitAt bytes p ≡ (getD bytes first 0 * 256 + getD bytes (first + 1) 0) / 2 ^ (e - 8) % 2
-      middle l (yes u) =
-          byte-bit p (first + 1) (e - 8) (omega arith) (omega arith)
-          ∙ sym (bit-of-last (getD bytes first 0) (getD bytes (first + 1) 0) (e - 8) (small (first + 1)) (omega arith))
-      middle l (no u) =
-          byte-bit p first (e - 8 - 8) (omega arith) (omega arith)
-          ∙ sym (ap (λ x. x % 2) (bits-of-rest (getD bytes first 0) (getD bytes (first + 1) 0) (e - 8) (small (first + 1)) (omega arith)))
+      go : Dec (e < 8) → (8 ≤ e → bitAt bytes (8 * first + j) ≡ numberAt bytes first count / 2 ^ (e - 8) % 2) → bitAt bytes (8 * first + j) ≡ (numberAt bytes first count * 256 + byte) / 2 ^ e % 2
+      go (yes l) before =
+          byte-bit (8 * first + j) (first + count) e (omega arith) (omega arith)
+          ∙ sym (bit-of-last (numberAt bytes first count) byte e (small (first + count)) l)
+      go (no l) before =
+          before (omega arith)
+          ∙ sym (ap (λ x. x % 2) (bits-of-rest (numberAt bytes first count) byte e (small (first + count)) (omega arith)))
 
-      last : Dec (e < 8) → bitAt bytes p ≡ windowAt bytes first / 2 ^ e % 2
-      last (yes l) =
-          byte-bit p (first + 2) e (omega arith) (omega arith)
-          ∙ sym (bit-of-last _ (getD bytes (first + 2) 0) e (small (first + 2)) l)
-      last (no l) =
-          middle (omega arith) (decLt e 16)
-          ∙ sym (ap (λ x. x % 2) (bits-of-rest _ (getD bytes (first + 2) 0) e (small (first + 2)) (omega arith)))
-
-  field-from : (width j k : ℕ) → j + width + k ≡ 24 → field bytes (8 * first + j) width ≡ windowAt bytes first / 2 ^ k % 2 ^ width
+  -- A field that ends within `count` bytes from `first` on is what a shift and a remainder leave of their number.
+  pub field-number : (count width j k : ℕ) → j + width + k ≡ 8 * count → field bytes (8 * first + j) width ≡ numberAt bytes first count / 2 ^ k % 2 ^ width
   unfolding field
-  field-from zero j k h = sym (mod-one (windowAt bytes first / 2 ^ k))
-  field-from (suc width) j k h =
-      ap₂ (λ x y. x * 2 ^ width + y) (bit-window j (k + width) (omega arith) ∙ ap (λ x. x % 2) (sym (shr-shr window k width)))
-      (ap (λ p. field bytes p width) (add-assoc (8 * first) j 1) ∙ field-from width (j + 1) k (omega arith))
-      ∙ sym (ap (λ x. window / 2 ^ k % 2 ^ x) (sym (one-add width)) ∙ mod-pow-add (window / 2 ^ k) 1 width)
+  field-number count zero j k h = sym (mod-one (numberAt bytes first count / 2 ^ k))
+  field-number count (suc width) j k h =
+      ap₂ (λ x y. x * 2 ^ width + y) (bit-number count j (k + width) (omega arith) ∙ ap (λ x. x % 2) (sym (shr-shr number k width)))
+      (ap (λ p. field bytes p width) (add-assoc (8 * first) j 1) ∙ field-number count width (j + 1) k (omega arith))
+      ∙ sym (ap (λ x. number / 2 ^ k % 2 ^ x) (sym (one-add width)) ∙ mod-pow-add (number / 2 ^ k) 1 width)
     where
-      window : ℕ
-      window = windowAt bytes first
+      number : ℕ
+      number = numberAt bytes first count
 
--- A field that ends within three bytes of the one it begins in is what a shift and a remainder leave of their number.
-pub field-window : (bytes : List ℕ) → ((i : ℕ) → getD bytes i 0 < 256) → (p width k : ℕ) → p % 8 + width + k ≡ 24 → field bytes p width ≡ windowAt bytes (p / 8) / 2 ^ k % 2 ^ width
+pub three-bytes : (bytes : List ℕ) (first : ℕ) → numberAt bytes first 3 ≡ (getD bytes first 0 * 256 + getD bytes (first + 1) 0) * 256 + getD bytes (first + 2) 0
+unfolding numberAt
+three-bytes bytes first = rw (zero-add, add-zero)
+
+-- A field within three bytes, by the bit that it begins at.
+pub field-window : (bytes : List ℕ) → ((i : ℕ) → getD bytes i 0 < 256) → (p width k : ℕ) → p % 8 + width + k ≡ 24 → field bytes p width ≡ numberAt bytes (p / 8) 3 / 2 ^ k % 2 ^ width
 field-window bytes small p width k h =
     let whole : 8 * (p / 8) + p % 8 ≡ p = omega arith in
-    rw whole at (field-from bytes (p / 8) small width (p % 8) k h)
+    rw whole at (field-number bytes (p / 8) small 3 width (p % 8) k h)
+
+-- A field that is cut from the number of eight bytes, by the bit of the byte string that it begins at.
+pub cut-field : (bytes : List ℕ) (first : ℕ) → ((i : ℕ) → getD bytes i 0 < 256) → {bits at width : ℕ} {piece : Piece} (p : ℕ) → bits ≡ numberAt bytes first 8 → Cut bits at width piece → 8 * first + at ≡ p → at + width ≤ 64 → piece .value ≡ field bytes p width
+cut-field bytes first small {bits} {at} {width} p eight cut e within =
+    cut .value ∙ ap (λ x. x / 2 ^ (64 - (at + width)) % 2 ^ width) eight
+    ∙ sym (field-number bytes first small 8 width at (64 - (at + width)) (omega arith))
+    ∙ ap (λ x. field bytes x width) e
 
 -- The number of a field's values, as the code makes it.
-pub power-made : (width : ℕ) → width ≤ 16 → (1 * 2 ^ width) % 2 ^ 32 ≡ 2 ^ width
-power-made width h = shl-exact {a = 1} 1 width 32 (omega arith) (omega arith) ∙ one-mul (2 ^ width)
+pub power-made : (bits width : ℕ) → width < bits → (1 * 2 ^ width) % 2 ^ bits ≡ 2 ^ width
+power-made bits width h = shl-exact {a = 1} 1 width bits (omega arith) (omega arith) ∙ one-mul (2 ^ width)

@@ -1,9 +1,9 @@
 -- What the cursor takes at a bit position.
--- Main definition: `takenAt`. Assumes nothing.
+-- Main definitions: `takenAt`, `Cut`. Assumes nothing.
 use mathlib.Core.Path.{_≡_}
 use mathlib.Core.Bool.{cond}
 use mathlib.Core.List.{List}
-use Prim.Native.Nat.{ℕ, _+_, _*_, _^_, _<_}
+use Prim.Native.Nat.{ℕ, zero, suc, _+_, _-_, _*_, _/_, _%_, _^_, _<_}
 use lib.ListN.{length, getD}
 use lib.Dec.{leb}
 use Rattle.problem.specs.Bits.{field}
@@ -17,12 +17,19 @@ use Rattle.cursor.specs.declared.Piece.{Piece}
 unfoldable pub takenAt : List ℕ → (at width : ℕ) → Field
 takenAt bytes at width = cond (leb (at + width) (8 * length bytes)) (Got (field bytes at width) (record { at = at + width })) Ended
 
--- the three bytes from `first` on as one number
-unfoldable pub windowAt : List ℕ → (first : ℕ) → ℕ
-windowAt bytes first = (getD bytes first 0 * 256 + getD bytes (first + 1) 0) * 256 + getD bytes (first + 2) 0
+-- `count` bytes from `first` on as one number, the first the highest
+unfoldable pub numberAt : List ℕ → (first count : ℕ) → ℕ
+numberAt bytes first zero = 0
+numberAt bytes first (suc count) = numberAt bytes first count * 256 + getD bytes (first + count) 0
 
 -- a field that is there, and the cursor after it
 pub record Next (bytes : List ℕ) (at width : ℕ) (piece : Piece) : Type 0 where
   pub value : piece .value ≡ field bytes at width
+  pub small : piece .value < 2 ^ width
+  pub after : piece .next .at ≡ at + width
+
+-- a field of 64 bits, counted from the highest of them, and the cursor after it
+pub record Cut (bits at width : ℕ) (piece : Piece) : Type 0 where
+  pub value : piece .value ≡ bits / 2 ^ (64 - (at + width)) % 2 ^ width
   pub small : piece .value < 2 ^ width
   pub after : piece .next .at ≡ at + width

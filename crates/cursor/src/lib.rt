@@ -2,7 +2,7 @@
 ghost use mathlib.Core.Path.{_≡_};
 ghost use Prim.Native.Nat.{_+_, _*_, _<_, _≤_, _^_};
 ghost use lib.ListN.{length, getD};
-ghost use Rattle.cursor.specs.Taken.{windowAt, takenAt, Next};
+ghost use Rattle.cursor.specs.Taken.{numberAt, takenAt, Next, Cut};
 
 // A bit position; bit 0 is the most significant bit of the first byte.
 pub struct Cursor {
@@ -35,7 +35,7 @@ fn byte_at(bytes: &[u8], index: usize) -> u32
 // The 24 bits from a byte on.
 fn window(bytes: &[u8], first: usize) -> u32
     requires { ⌜ first + 2 < 2 ^ 64 ⌝ }
-    ensures { λ r. ⌜ r ≡ windowAt (now (bytes .entry)) first ⌝ }
+    ensures { λ r. ⌜ r ≡ numberAt (now (bytes .entry)) first 3 ⌝ }
 {
     let high = byte_at(bytes, first);
     let middle = byte_at(bytes, first + 1);
@@ -62,11 +62,12 @@ impl Cursor {
         }
     }
 
-    // A field whose bits are there.
+    // A field whose bits are there. The cursor after it is the same either way, so that the compiler knows where it stands.
     pub fn read(self, bytes: &[u8], width: u32) -> Piece
         requires { ⌜ (width ≤ 16) × (self .at + width < 2 ^ 64) × (self .at + width ≤ 8 * length (now bytes)) ⌝ }
         ensures { λ r. ⌜ Next (now (bytes .entry)) (self .at) width r ⌝ }
     {
+        let past = self.at + width as usize;
         match self.take(bytes, width) {
             Field::Got { value, next } => Piece {
                 value: value,
@@ -74,8 +75,21 @@ impl Cursor {
             },
             Field::Ended => Piece {
                 value: 0,
-                next: self,
+                next: Cursor { at: past },
             },
+        }
+    }
+
+    // A field of 64 bits that are at hand as one number: the cursor counts from the highest of them.
+    pub fn cut(self, bits: u64, width: u32) -> Piece
+        requires { ⌜ (1 ≤ width) × (width ≤ 16) × (self .at + width ≤ 64) ⌝ }
+        ensures { λ r. ⌜ Cut bits (self .at) width r ⌝ }
+    {
+        let past = self.at + width as usize;
+        let value = (bits >> ((64 - past) as u32)) % (1u64 << width);
+        Piece {
+            value: value as u32,
+            next: Cursor { at: past },
         }
     }
 }

@@ -12,8 +12,8 @@ pub read-term-unique : (bytes : List ℕ) (own : ℕ) (r s : TermRead) → r ≡
 read-term-unique bytes own r s p q = p ∙ sym q
 
 -- Nor that of `read_fields`.
-pub read-fields-unique : (bytes : List ℕ) (at : ℕ) (r s : Fields) → FieldsRead bytes at r → FieldsRead bytes at s → r ≡ s
+pub read-fields-unique : (bytes : List ℕ) (first : ℕ) (r s : Fields) → FieldsRead bytes first r → FieldsRead bytes first s → r ≡ s
 unfolding told
-read-fields-unique bytes at r s p q =
+read-fields-unique bytes first r s p q =
     let same = p .same ∙ sym (q .same) in
     λ i. record { kind = same i .kind; symbol = same i .symbol; input1 = same i .input1; input2 = same i .input2; input3 = same i .input3; mantissa = same i .mantissa; shift = same i .shift; padding = same i .padding }

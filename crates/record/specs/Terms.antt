@@ -16,8 +16,9 @@ use Rattle.record.specs.declared.TermRead.the-variants.{Sound, Faulty}
 unfoldable pub told : held.Fields → Fields
 told f = record { kind = f .kind; symbol = f .symbol; input1 = f .input1; input2 = f .input2; input3 = f .input3; mantissa = f .mantissa; shift = f .shift; padding = f .padding }
 
-pub record FieldsRead (bytes : List ℕ) (at : ℕ) (f : held.Fields) : Type 0 where
-  pub same : told f ≡ fieldsAt bytes at
+-- the fields of the record that begins with byte `first`
+pub record FieldsRead (bytes : List ℕ) (first : ℕ) (f : held.Fields) : Type 0 where
+  pub same : told f ≡ fieldsAt bytes (8 * first)
   pub small : f .shift < 16
 
 unfoldable pub zeros : List ℕ → Bool

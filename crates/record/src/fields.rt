@@ -1,7 +1,9 @@
-// The fields of a term record, read through the cursor.
+// The fields of a term record, cut from its eight bytes by the cursor.
 use cursor::Cursor;
-ghost use Prim.Native.Nat.{_+_, _*_, _≤_};
+ghost use mathlib.Core.Path.{_≡_};
+ghost use Prim.Native.Nat.{_+_, _≤_};
 ghost use lib.ListN.{length};
+ghost use Rattle.cursor.specs.Taken.{numberAt};
 ghost use Rattle.record.specs.Terms.{FieldsRead};
 
 // The fields as the record has them; a shift has 4 bits.
@@ -16,20 +18,35 @@ pub struct Fields {
     pub padding: u8,
 }
 
-// The record from bit `at` on.
-pub(crate) fn read_fields(bytes: &[u8], at: usize) -> Fields
-    requires { ⌜ (at ≤ 4096) × (at + 64 ≤ 8 * length (now bytes)) ⌝ }
-    ensures { λ r. ⌜ FieldsRead (now (bytes .entry)) at r ⌝ }
+// The eight bytes from `first` on as one number, the first the highest.
+fn eight_bytes(bytes: &[u8], first: usize) -> u64
+    requires { ⌜ (first ≤ 512) × (first + 8 ≤ length (now bytes)) ⌝ }
+    ensures { λ r. ⌜ r ≡ numberAt (now (bytes .entry)) first 8 ⌝ }
 {
-    let start = Cursor { at: at };
-    let kind = start.read(bytes, 4);
-    let symbol = kind.next.read(bytes, 8);
-    let input1 = symbol.next.read(bytes, 8);
-    let input2 = input1.next.read(bytes, 8);
-    let input3 = input2.next.read(bytes, 8);
-    let mantissa = input3.next.read(bytes, 16);
-    let shift = mantissa.next.read(bytes, 4);
-    let padding = shift.next.read(bytes, 8);
+    let mut number: u64 = 0;
+    let mut count: usize = 0;
+    while count < 8 {
+        number = number * 256 + bytes[first + count] as u64;
+        count += 1;
+    }
+    number
+}
+
+// The record from byte `first` on: its eight bytes are read once, and the cursor cuts the fields from them.
+pub(crate) fn read_fields(bytes: &[u8], first: usize) -> Fields
+    requires { ⌜ (first ≤ 512) × (first + 8 ≤ length (now bytes)) ⌝ }
+    ensures { λ r. ⌜ FieldsRead (now (bytes .entry)) first r ⌝ }
+{
+    let bits = eight_bytes(bytes, first);
+    let start = Cursor { at: 0 };
+    let kind = start.cut(bits, 4);
+    let symbol = kind.next.cut(bits, 8);
+    let input1 = symbol.next.cut(bits, 8);
+    let input2 = input1.next.cut(bits, 8);
+    let input3 = input2.next.cut(bits, 8);
+    let mantissa = input3.next.cut(bits, 16);
+    let shift = mantissa.next.cut(bits, 4);
+    let padding = shift.next.cut(bits, 8);
     Fields {
         kind: kind.value as u8,
         symbol: symbol.value as u8,

@@ -232,6 +232,6 @@ pub fn read_term(bytes: &[u8], own: usize) -> TermRead
     requires { ⌜ (own < 64) × (12 + 8 * own ≤ length (now bytes)) ⌝ }
     ensures { λ r. ⌜ r ≡ termRead (now (bytes .entry)) own ⌝ }
 {
-    let f = read_fields(bytes, 32 + 64 * own);
+    let f = read_fields(bytes, 4 + 8 * own);
     by_kind(own, f)
 }

@@ -1,5 +1,6 @@
 use borrow.Author.Needs.{needs}
-use Rattle.cursor.specs.Taken.{windowAt}
+use denote.Ref.{now}
+use Rattle.cursor.proofs.Bits.{three-bytes}
 use Rattle.cursor.proofs.window.Statement.{statement}
 use Rattle.cursor.proofs.window.Tie as tie
 use Rattle.cursor.proofs.window.Reads as reads
@@ -44,8 +45,9 @@ add-result-2 c = search needs
 
 -- src/lib.rt:32:1
 returns : tie.Need-returns
-unfolding windowAt
-returns c = search needs
+returns c =
+    let a = c .before .before .before .before .args in
+    rw (three-bytes (now (a .bytes)) (a .first)) (search needs)
 
 pub window-spec : {M : Type 1} → statement M
 window-spec =

@@ -19,11 +19,11 @@ shl-result c = search needs
 
 -- src/term.rt:38:5
 cast-result : tie.Need-cast-result
-cast-result c = rw (power-made (c .args .shift) (search needs)) (record { sfits = power-small (c .args .shift) (c .pre) })
+cast-result c = rw (power-made 32 (c .args .shift) (search needs)) (record { sfits = power-small (c .args .shift) (c .pre) })
 
 -- src/term.rt:34:1
 returns : tie.Need-returns
-returns c = rw (power-made (c .args .shift) (search needs)) (toZ-pos w32 (power-small (c .args .shift) (c .pre)))
+returns c = rw (power-made 32 (c .args .shift) (search needs)) (toZ-pos w32 (power-small (c .args .shift) (c .pre)))
 
 pub power-spec : {M : Type 1} → statement M
 power-spec = tie.close (tie.spec shl-result cast-result returns)

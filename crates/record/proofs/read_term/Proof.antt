@@ -1,5 +1,7 @@
 use borrow.Author.Needs.{needs}
-use mathlib.Core.Path.{_∙_}
+use mathlib.Core.Path.{_≡_, _∙_}
+use Prim.Native.Nat.{_+_, _*_}
+use native.Mathlib.Omega.{arith}
 use Rattle.record.specs.Terms.{termRead}
 use Rattle.record.proofs.read_term.Statement.{statement}
 use Rattle.record.proofs.read_term.Tie as tie
@@ -27,7 +29,10 @@ by-kind-requires c κs = search needs
 -- src/term.rt:230:1
 returns : tie.Need-returns
 unfolding termRead
-returns c = c .by-kind .ensures ∙ rw (c .before .read-fields .ensures .same)
+returns c =
+    let own = c .before .before .before .args .own in
+    let bits : 8 * (4 + 8 * own) ≡ 32 + 64 * own = omega arith in
+    c .by-kind .ensures ∙ rw (c .before .read-fields .ensures .same, bits)
 
 pub read-term-spec : {M : Type 1} → statement M
 read-term-spec =

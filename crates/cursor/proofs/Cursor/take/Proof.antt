@@ -8,7 +8,7 @@ use lib.Pow.{pow-pos}
 use denote.Ref.{now}
 use Rattle.problem.specs.Bits.{field}
 use Rattle.cursor.proofs.Bits.{field-window, power-made}
-use Rattle.cursor.specs.Taken.{windowAt, takenAt}
+use Rattle.cursor.specs.Taken.{numberAt, takenAt}
 use Rattle.cursor.proofs.Cursor.take.Statement.{statement}
 use Rattle.cursor.proofs.Cursor.take.Tie as tie
 use Rattle.cursor.proofs.Cursor.take.Reads as reads
@@ -63,7 +63,7 @@ shl-value c = search needs
 rem-value : tie.Need-rem-value
 rem-value c =
     let width = c .before .before .before .args .width in
-    rw (power-made width (search needs)) (pow-pos width)
+    rw (power-made 32 width (search needs)) (pow-pos width)
 
 -- src/lib.rt:44:5
 returns-2 : tie.Need-returns-2
@@ -74,9 +74,9 @@ returns-2 c =
     let width = a .width in
     let narrow : width ≤ 16 = search needs in
     let within : a .self .at + width ≤ 8 * length bytes = omega arith in
-    let three : field bytes (a .self .at) width ≡ windowAt bytes (a .self .at / 8) / 2 ^ (24 - (a .self .at % 8 + width)) % 2 ^ width =
+    let three : field bytes (a .self .at) width ≡ numberAt bytes (a .self .at / 8) 3 / 2 ^ (24 - (a .self .at % 8 + width)) % 2 ^ width =
     field-window bytes (λ i. c .before .before .shared-slice-known .given i .fits) (a .self .at) width _ (omega arith) in
-    rw (le-leb _ _ within, c .window .ensures, power-made width narrow, three)
+    rw (le-leb _ _ within, c .window .ensures, power-made 32 width (omega arith), three)
 
 pub take-spec : {M : Type 1} → statement M
 take-spec =

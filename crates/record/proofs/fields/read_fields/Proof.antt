@@ -1,79 +1,84 @@
-use native.Mathlib.Omega.{arith}
 use borrow.Author.Needs.{needs}
 use native.Mathlib.Nat.{lt-of-lt-of-le}
 use lib.Dec.{lit≤}
-use Rattle.record.proofs.Chain.{fields-read}
+use denote.Ref.{now}
+use Rattle.record.proofs.Chain.{fields-cut}
 use Rattle.record.proofs.fields.read_fields.Statement.{statement}
 use Rattle.record.proofs.fields.read_fields.Tie as tie
 use Rattle.record.proofs.fields.read_fields.Reads as reads
 use Rattle.record.proofs.fields.read_fields.Lts as lts
-use Rattle.cursor.proofs.Cursor.read.Reads as read-reads
+use Rattle.cursor.proofs.Cursor.cut.Reads as cut-reads
+use Rattle.record.proofs.fields.eight_bytes.Reads as eight-bytes-reads
 
--- src/record.rt:26:9
-read-requires : tie.Need-read-requires
-read-requires c κs = search needs
+-- src/fields.rt:40:9
+eight-bytes-requires : tie.Need-eight-bytes-requires
+eight-bytes-requires c κs = search needs
 
--- src/record.rt:27:9
-read-requires-2 : tie.Need-read-requires-2
-read-requires-2 c κs = search needs
+-- src/fields.rt:42:9
+cut-requires : tie.Need-cut-requires
+cut-requires c κs = search needs
 
--- src/record.rt:28:9
-read-requires-3 : tie.Need-read-requires-3
-read-requires-3 c κs = search needs
+-- src/fields.rt:43:9
+cut-requires-2 : tie.Need-cut-requires-2
+cut-requires-2 c κs = search needs
 
--- src/record.rt:29:9
-read-requires-4 : tie.Need-read-requires-4
-read-requires-4 c κs = search needs
+-- src/fields.rt:44:9
+cut-requires-3 : tie.Need-cut-requires-3
+cut-requires-3 c κs = search needs
 
--- src/record.rt:30:9
-read-requires-5 : tie.Need-read-requires-5
-read-requires-5 c κs = search needs
+-- src/fields.rt:45:9
+cut-requires-4 : tie.Need-cut-requires-4
+cut-requires-4 c κs = search needs
 
--- src/record.rt:31:9
-read-requires-6 : tie.Need-read-requires-6
-read-requires-6 c κs = search needs
+-- src/fields.rt:46:9
+cut-requires-5 : tie.Need-cut-requires-5
+cut-requires-5 c κs = search needs
 
--- src/record.rt:32:9
-read-requires-7 : tie.Need-read-requires-7
-read-requires-7 c κs = search needs
+-- src/fields.rt:47:9
+cut-requires-6 : tie.Need-cut-requires-6
+cut-requires-6 c κs = search needs
 
--- src/record.rt:33:9
-read-requires-8 : tie.Need-read-requires-8
-read-requires-8 c κs = omega (arith, c .before .before .before .before .before .before .before .before .pre)
+-- src/fields.rt:48:9
+cut-requires-7 : tie.Need-cut-requires-7
+cut-requires-7 c κs = search needs
 
--- src/record.rt:35:15
-cast-t12 : tie.Need-cast-t12
-cast-t12 c = record { fits = lt-of-lt-of-le (c .before .before .before .before .before .before .before .before .read .ensures .small) (lit≤ tt) }
+-- src/fields.rt:49:9
+cut-requires-8 : tie.Need-cut-requires-8
+cut-requires-8 c κs = search needs
 
--- src/record.rt:36:17
+-- src/fields.rt:51:15
 cast-t13 : tie.Need-cast-t13
-cast-t13 c = search needs
+cast-t13 c = record { fits = lt-of-lt-of-le (c .before .before .before .before .before .before .before .before .cut .ensures .small) (lit≤ tt) }
 
--- src/record.rt:37:17
+-- src/fields.rt:52:17
 cast-t14 : tie.Need-cast-t14
 cast-t14 c = search needs
 
--- src/record.rt:38:17
+-- src/fields.rt:53:17
 cast-t15 : tie.Need-cast-t15
 cast-t15 c = search needs
 
--- src/record.rt:39:17
+-- src/fields.rt:54:17
 cast-t16 : tie.Need-cast-t16
 cast-t16 c = search needs
 
--- src/record.rt:40:19
+-- src/fields.rt:55:17
 cast-t17 : tie.Need-cast-t17
 cast-t17 c = search needs
 
--- src/record.rt:41:16
+-- src/fields.rt:56:19
 cast-t18 : tie.Need-cast-t18
 cast-t18 c = search needs
 
--- src/record.rt:42:18
+-- src/fields.rt:57:16
 cast-t19 : tie.Need-cast-t19
 cast-t19 c = search needs
 
--- src/record.rt:21:1
+-- src/fields.rt:58:18
+cast-t20 : tie.Need-cast-t20
+cast-t20 c = search needs
+
+-- src/fields.rt:36:1
 returns : tie.Need-returns
 returns c =
     let r8 = c .before .before .before .before .before .before .before .before in
@@ -83,21 +88,25 @@ returns c =
     let r4 = r5 .before in
     let r3 = r4 .before in
     let r2 = r3 .before in
-    fields-read (r2 .before .read .ensures) (r2 .read2 .ensures) (r3 .read3 .ensures) (r4 .read4 .ensures) (r5 .read5 .ensures) (r6 .read6 .ensures) (r7 .read7 .ensures) (r8 .read8 .ensures)
+    let r1 = r2 .before in
+    let read = r1 .before in
+    let known = read .before in
+    let s = known .before .args in
+    fields-cut (now (s .bytes)) (s .first) (λ i. known .shared-slice-known .given i .fits) (read .eight-bytes .ensures) (r1 .cut .ensures) (r2 .cut2 .ensures) (r3 .cut3 .ensures) (r4 .cut4 .ensures) (r5 .cut5 .ensures) (r6 .cut6 .ensures) (r7 .cut7 .ensures) (r8 .cut8 .ensures)
 
 pub read-fields-spec : {M : Type 1} → statement M
 read-fields-spec =
     tie.close
     (tie.spec
-    read-requires
-    read-requires-2
-    read-requires-3
-    read-requires-4
-    read-requires-5
-    read-requires-6
-    read-requires-7
-    read-requires-8
-    cast-t12
+    eight-bytes-requires
+    cut-requires
+    cut-requires-2
+    cut-requires-3
+    cut-requires-4
+    cut-requires-5
+    cut-requires-6
+    cut-requires-7
+    cut-requires-8
     cast-t13
     cast-t14
     cast-t15
@@ -105,4 +114,5 @@ read-fields-spec =
     cast-t17
     cast-t18
     cast-t19
+    cast-t20
     returns)

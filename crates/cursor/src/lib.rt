@@ -85,11 +85,11 @@ impl Cursor {
         requires { ⌜ (1 ≤ width) × (width ≤ 16) × (self .at + width ≤ 64) ⌝ }
         ensures { λ r. ⌜ Cut bits (self .at) width r ⌝ }
     {
-        let past = self.at + width as usize;
-        let value = (bits >> ((64 - past) as u32)) % (1u64 << width);
+        let stop = self.at + width as usize;
+        let value = (bits >> ((64 - stop) as u32)) % (1 << width);
         Piece {
             value: value as u32,
-            next: Cursor { at: past },
+            next: Cursor { at: stop },
         }
     }
 }

@@ -14,8 +14,8 @@ below-power : (x width : ℕ) → x % 2 ^ width < 2 ^ width
 below-power x width = mod-lt x (pow-pos width)
 
 -- src/lib.rt:87:19
-add-past : tie.Need-add-past
-add-past c = search needs
+add-stop : tie.Need-add-stop
+add-stop c = search needs
 
 -- src/lib.rt:88:32
 sub-value : tie.Need-sub-value
@@ -56,7 +56,7 @@ pub cut-spec : {M : Type 1} → statement M
 cut-spec =
     tie.close
     (tie.spec
-    add-past
+    add-stop
     sub-value
     cast-value
     cast-value-2

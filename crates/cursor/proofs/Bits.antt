@@ -74,6 +74,7 @@ module _ (bytes : List ℕ) (first : ℕ) (small : (i : ℕ) → getD bytes i 0 
       number : ℕ
       number = numberAt bytes first count
 
+-- The number of three bytes, as the code makes it.
 pub three-bytes : (bytes : List ℕ) (first : ℕ) → numberAt bytes first 3 ≡ (getD bytes first 0 * 256 + getD bytes (first + 1) 0) * 256 + getD bytes (first + 2) 0
 unfolding numberAt
 three-bytes bytes first = rw (zero-add, add-zero)
@@ -91,6 +92,6 @@ cut-field bytes first small {bits} {at} {width} p eight cut e within =
     ∙ sym (field-number bytes first small 8 width at (64 - (at + width)) (omega arith))
     ∙ ap (λ x. field bytes x width) e
 
--- The number of a field's values, as the code makes it.
+-- The number of a field's values, as the code makes it by a shift within `bits` bits.
 pub power-made : (bits width : ℕ) → width < bits → (1 * 2 ^ width) % 2 ^ bits ≡ 2 ^ width
 power-made bits width h = shl-exact {a = 1} 1 width bits (omega arith) (omega arith) ∙ one-mul (2 ^ width)

@@ -54,7 +54,7 @@ fn earlier_of(heads: &[u16], sets: &[u64], t: usize) -> u64
 }
 
 // Term t, whose head and inputs are noted, is linked, if it is a lookup.
-pub fn note_links(t: usize, heads: &[u16], inputs: &[u8], sets: &mut [u64])
+pub(crate) fn note_links(t: usize, heads: &[u16], inputs: &[u8], sets: &mut [u64])
     requires { ⌜ (t < 64) × (length (now heads) ≡ 64) × (length (now inputs) ≡ 192) × (length (now sets) ≡ 193) ⌝ }
     requires { ⌜ InputsSmall (t + 1) (now inputs) ⌝ }
     requires { ⌜ Linked t (now heads) (now inputs) (now sets) ⌝ }

@@ -1,9 +1,8 @@
 -- One assumption: its sides merged, then closed.
--- Main results: `counted-more`, `assumed-closed`, `assumed-contradicts`, `assumed-refuses`, `goes-ready`, `goes-awake`. Assume nothing.
+-- Main results: `assumed-closed`, `assumed-contradicts`, `assumed-refuses`, `goes-ready`, `goes-awake`. Assume nothing.
 use mathlib.Core.Path.{_≡_, ap, _∙_, subst}
 use mathlib.Core.List.{List}
 use Prim.Native.Nat.{ℕ, _≤_}
-use native.Mathlib.Omega.{arith}
 use lib.IntN.{ℤ}
 use Rattle.answer.specs.declared.Answer.the-variants.{Contradictory, Refused}
 use Rattle.fraction.specs.Made.{made, _>>=_, because}
@@ -20,8 +19,7 @@ use Rattle.merge.specs.declared.Merged.{Merged}
 use Rattle.merge.specs.declared.Merged.the-variants.{Nothing, Solved, Contradiction as Clash, Refused as Outside}
 use Rattle.due.specs.Found.{Lookups, InputsBelow, Awake}
 use Rattle.close.specs.declared.Closed.{Closed}
-use Rattle.close.specs.declared.Closed.the-variants as closing
-use Rattle.close.specs.Outcome.{closed, Counted}
+use Rattle.close.specs.Outcome.{closed}
 use Rattle.close.specs.Ready.{Ready}
 use Rattle.close.proofs.Sets.{ready-merged, merged-awake}
 use Rattle.close.proofs.Turns.{stateAt}
@@ -29,13 +27,6 @@ use Rattle.steps.specs.declared.Ran.{Ran}
 use Rattle.steps.specs.declared.Ran.the-variants.{Ended}
 use Rattle.steps.specs.Ran.{ran}
 use Rattle.assume.specs.Assumed.{assumed}
-
--- A count that is at most one number is at most a greater one.
-pub counted-more : {few many : ℕ} (c : Closed) → few ≤ many → Counted few c → Counted many c
-unfolding Counted
-counted-more (closing.Going solved) more counted = omega arith
-counted-more closing.Contradiction more counted = tt
-counted-more (closing.Refused number) more counted = tt
 
 module _ (n place left right solved : ℕ) (nums₀ dens₀ nums dens : List ℤ) (answer : Merged) (merges : (before : ℕ) → merge byNumber left right (stateAt n nums₀ dens₀ before) ≡ merged answer before (tableAt n nums dens)) where
   after : (to : Merged) → answer ≡ to → (terms : List Term) → assumed terms place left right (stateAt n nums₀ dens₀ solved) ≡ because (ends place) (merged to solved (tableAt n nums dens) >>= rule.close byNumber terms)

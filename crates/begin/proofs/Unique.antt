@@ -17,7 +17,7 @@ use Rattle.steps.specs.declared.Ran.{Ran}
 use Rattle.steps.specs.declared.Ran.the-variants.{Going}
 use Rattle.steps.specs.Ran.{ran, WhileGoing, Prepared}
 use Rattle.steps.proofs.Unique.{ran-determined, going-determined}
-use Rattle.begin.proofs.Stages.{going-holds}
+use Rattle.steps.proofs.Going.{going-holds}
 
 -- What `begin` ensures.
 pub record Begun (bytes : List ℕ) (n : ℕ) (nums₀ dens₀ : List ℤ) (heads₀ inputs₀ : List ℕ) (r : Ran) (nums dens : List ℤ) (heads inputs sets : List ℕ) : Type 0 where

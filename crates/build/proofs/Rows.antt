@@ -24,10 +24,10 @@ use Rattle.table.specs.Loop.{Kept}
 use Rattle.table.specs.Calls.{Calls, NotesKept}
 use Rattle.table.specs.Sparse.{Sparse, Linked, pendingOf}
 use Rattle.table.proofs.Columns.{table-length, kept-itself, kept-within, kept-then}
-use Rattle.table.proofs.Turns.{finished-done, finished-refused}
+use Rattle.table.proofs.Turns.{finished-done, finished-refused, refused-not-done}
 use Rattle.build_rows.specs.Built.{RowBuilt}
 use Rattle.build.specs.Built.{TableBuilt}
-use Rattle.build_rows.proofs.Building.{table-kept, refused-not-done}
+use Rattle.build_rows.proofs.Building.{table-kept}
 
 -- One more member stands at the end of a list.
 listed-more {ℓ} : {A : Type ℓ} (g : ℕ → A) (count from : ℕ) → listed (suc count) from g ≡ listed count from g ++ (g (from + count) ∷ [])

@@ -35,9 +35,6 @@ pub row-made-built : {kind : Kind} {t : ℕ} {step : Step} {nums₀ dens₀ nums
 unfolding COLUMNS TERMS
 row-made-built row-made = record { ends = row-made .ends; kept = row-made .kept; sound = λ done. row-made .sound }
 
-pub refused-not-done : {number : ℕ} → Refused number ≡ Done → ⊥
-refused-not-done e = let never : _≡_ {A = ℕ} 0 1 = cc in omega arith
-
 -- The row of a term whose fraction was brought to lowest terms is the term's own.
 pub lowered-built : {kind lowered : Kind} {t : ℕ} {step : Step} {nums₀ dens₀ nums dens : List ℤ} → Lowered kind lowered → RowBuilt lowered t step nums₀ dens₀ nums dens → RowBuilt kind t step nums₀ dens₀ nums dens
 lowered-built {kind} {lowered} {t} {step} {nums₀} {dens₀} same built =

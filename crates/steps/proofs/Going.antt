@@ -1,17 +1,38 @@
--- What holds while closing goes on holds while the run does.
--- Main result: `open-going`. Assumes nothing.
-use mathlib.Core.Path.{_≡_}
-use Prim.Native.Nat.{ℕ}
+-- What holds while closing or the run goes on, and how many unknowns are solved then.
+-- Main results: `counted-more`, `when-going`, `while-going`, `going-holds`, `open-going`. Assume nothing.
+use mathlib.Core.Path.{_≡_, refl, subst}
+use Prim.Native.Nat.{ℕ, _≤_}
+use native.Mathlib.Omega.{arith}
 use Rattle.fraction.specs.Made.{because}
 use Rattle.fraction.proofs.Making.{stopped-not-made}
 use Rattle.run.specs.Row.{Table}
 use Rattle.run.specs.Run.{ends}
 use Rattle.close.specs.declared.Closed.{Closed}
 use Rattle.close.specs.declared.Closed.the-variants.{Going as Open, Contradiction, Refused}
-use Rattle.close.specs.Outcome.{closed, WhileOpen}
+use Rattle.close.specs.Outcome.{closed, Counted, WhileOpen}
 use Rattle.steps.specs.declared.Ran.{Ran}
 use Rattle.steps.specs.declared.Ran.the-variants.{Going, Ended}
 use Rattle.steps.specs.Ran.{ran, WhileGoing}
+
+-- A count that is at most one number is at most a greater one.
+pub counted-more : {few many : ℕ} (closing : Closed) → few ≤ many → Counted few closing → Counted many closing
+unfolding Counted
+counted-more (Open solved) more counted = omega (arith, more, counted)
+counted-more Contradiction more counted = tt
+counted-more (Refused number) more counted = tt
+
+-- What holds where the run goes on with a count holds while it goes on.
+pub when-going : {holds : Type 0} (r : Ran) → ((count : ℕ) → r ≡ Going count → holds) → WhileGoing holds r
+unfolding WhileGoing
+when-going (Going count) held = held count refl
+when-going (Ended answer) held = tt
+
+pub while-going : {holds : Type 0} (r : Ran) → holds → WhileGoing holds r
+while-going r held = when-going r λ count going. held
+
+pub going-holds : {holds : Type 0} {r : Ran} {count : ℕ} → r ≡ Going count → WhileGoing holds r → holds
+unfolding WhileGoing
+going-holds {holds} going held = subst (WhileGoing holds) going held
 
 module _ (holds : Type 0) (place : ℕ) where
   -- Closing that has stopped ends the run.

@@ -8,8 +8,8 @@ use Rattle.merge.specs.declared.Merged.the-variants.{Nothing, Solved}
 use Rattle.table.specs.Held.{tableAt}
 use Rattle.table.proofs.Columns.{kept-then}
 use Rattle.steps.specs.Ran.{AtMost, WhileGoing}
-use Rattle.steps.proofs.Going.{open-going}
-use Rattle.assume.proofs.One.{counted-more, assumed-closed, assumed-contradicts, assumed-refuses, goes-ready, goes-awake}
+use Rattle.steps.proofs.Going.{counted-more, open-going}
+use Rattle.assume.proofs.One.{assumed-closed, assumed-contradicts, assumed-refuses, goes-ready, goes-awake}
 use Rattle.assume.proofs.assume_one.Statement.{statement}
 use Rattle.assume.proofs.assume_one.Tie as tie
 

@@ -14,9 +14,9 @@ use Rattle.due.specs.Found.{Lookups, InputsBelow, Awake}
 use Rattle.due.proofs.Woken.{pending-awake}
 use Rattle.close.specs.Ready.{Ready}
 use Rattle.steps.specs.Ran.{ran, AtMost, WhileGoing, Prepared}
-use Rattle.steps.proofs.Going.{open-going}
+use Rattle.steps.proofs.Going.{counted-more, when-going, going-holds, open-going}
 use Rattle.begin.proofs.Noted.{decoded-inputs, decoded-lookups}
-use Rattle.begin.proofs.Stages.{begin-refused, begin-closed, counted-within, when-going, going-holds}
+use Rattle.begin.proofs.Stages.{begin-refused, begin-closed}
 use Rattle.begin.proofs.begin.Statement.{statement}
 use Rattle.begin.proofs.begin.Tie as tie
 
@@ -89,7 +89,7 @@ placed-requires : tie.Need-placed-requires
 placed-requires c κs =
     let k = c .before .before .before .before in
     let s = start (build (told k)) in
-    counted-within {most = 0 + s .args .n + 1} (k .close .result) (omega (arith, few s)) (k .close .ensures .1 .1 .1 .0)
+    counted-more {few = 0 + s .args .n + 1} (k .close .result) (omega (arith, few s)) (k .close .ensures .1 .1 .1 .0)
 
 enum-known-number : tie.Need-enum-known-number
 enum-known-number c = search needs

@@ -1,9 +1,9 @@
 // The program: one problem from standard input, its listing on standard output. All that matters is in `decide` and `page`.
 
+use problem::PLACES;
+
 // 01, The listing: "645 bytes are enough to judge any length".
 const INPUT: usize = 645;
-
-const PLACES: usize = 4160;
 
 fn main() {
     let mut input = [0u8; INPUT];

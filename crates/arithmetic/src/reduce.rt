@@ -1,5 +1,6 @@
 // A whole number over another, in lowest terms and tested against the limits.
 use crate::Made;
+use answer::RANGE;
 use fraction::Fraction;
 use integer::euclid::greatest;
 use integer::signed::narrow;
@@ -16,9 +17,6 @@ ghost use Rattle.arithmetic.specs.Values.{Answers};
 
 // 01, The run: the largest numerator and denominator.
 const LIMIT: u64 = 2147483647;
-
-// 01, What comes back: 7 RANGE.
-const RANGE: u8 = 7;
 
 // Two sizes with no common divisor but 1.
 pub struct Terms {

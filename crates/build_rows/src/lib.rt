@@ -1,11 +1,11 @@
 // The row of one term, built from the rows before it.
 use arithmetic::Made;
 use fraction::Fraction;
+use problem::COLUMNS;
 use problem::Kind;
+use problem::TERMS;
 use problem::Term;
-use table::COLUMNS;
 use table::Step;
-use table::TERMS;
 ghost use mathlib.Core.Path.{_≡_};
 ghost use Prim.Native.Nat.{ℕ, _+_, _*_, _<_, _≤_};
 ghost use lib.ListN.{length, getD};

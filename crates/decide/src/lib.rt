@@ -1,8 +1,12 @@
 // The decider: bytes and two lent lists in, the answer out, for every byte string and every length of either list.
 use answer::Answer;
+use answer::SPACE;
+use problem::PLACES;
+use problem::TERMS;
 use reader::Header;
 use reader::Read;
 use steps::Ran;
+use table::PENDING;
 ghost use mathlib.Core.Path.{_≡_};
 ghost use Prim.Native.Nat.{_*_, _<_, _≤_};
 ghost use lib.ListN.{length};
@@ -20,12 +24,6 @@ ghost use Rattle.steps.specs.Ran.{ran, WhileGoing};
 ghost use Rattle.outcome.specs.Outcome.{decision, after};
 ghost use Rattle.finish.specs.Leaves.{leaves};
 ghost use Rattle.decide.specs.Decided.{Decided};
-
-// 01, What comes back: "1 SPACE".
-const SPACE: u8 = 1;
-
-// 01, What comes back: "row t, column c stands at 65t + c, 4,160 places".
-const PLACES: usize = 4160;
 
 // 01, The run: built and closed, then each assumption.
 fn run_all(
@@ -69,9 +67,9 @@ fn decide_sound(bytes: &[u8], header: Header, nums: &mut [i32], dens: &mut [i32]
     ensures { λ r. ⌜ after (decision byNumber (now (bytes .entry))) (now (nums .entry)) (now (dens .entry)) ≡ leaves r (now (nums .exit)) (now (dens .exit)) ⌝ }
 {
     let n = header.n;
-    let mut heads = [0u16; 64];
-    let mut inputs = [0u8; 192];
-    let mut sets = [0u64; 193];
+    let mut heads = [0u16; TERMS];
+    let mut inputs = [0u8; 3 * TERMS];
+    let mut sets = [0u64; PENDING + 1];
     match run_all(
         bytes,
         n,

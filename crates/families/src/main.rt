@@ -2,13 +2,12 @@
 // with `~` is one to be compared with it, by word, count and all places of both lists: `same`, or what differs. A line that begins with
 // `#` is a remark, written as it stands.
 use answer::Answer;
+use problem::PLACES;
 
 const TEXT: usize = 131072;
 
 // 645 bytes are enough to judge any length.
 const INPUT: usize = 1024;
-
-const PLACES: usize = 4160;
 
 // The number of the word `refused`.
 const REFUSED: u8 = 3;

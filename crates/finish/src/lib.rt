@@ -1,6 +1,7 @@
 // The end of a run: both lists are left as the rules say, and the answer is given.
 use answer::Answer;
-use table::COLUMNS;
+use problem::COLUMNS;
+use problem::PLACES;
 ghost use mathlib.Core.Path.{_≡_};
 ghost use Prim.Native.Nat.{_*_, _<_, _≤_};
 ghost use lib.ListN.{length};
@@ -9,9 +10,6 @@ ghost use Rattle.run.specs.Run.{judged};
 ghost use Rattle.outcome.specs.Outcome.{finished, cutShort, after};
 ghost use Rattle.table.specs.Held.{tableAt, SoundTo};
 ghost use Rattle.finish.specs.Leaves.{leaves};
-
-// 01, What comes back: "row t, column c stands at 65t + c, 4,160 places".
-const PLACES: usize = 4160;
 
 // A run that went through: the rows stay, rows n to 63 become 0/1, and the goal's rows are compared.
 pub fn with_rows(

@@ -1,7 +1,7 @@
 // Folding a solved form into the rows of the table.
 use arithmetic::Made;
 use fraction::Fraction;
-use table::COLUMNS;
+use problem::COLUMNS;
 use table::PENDING;
 use table::Step;
 use table::USERS;

@@ -1,7 +1,11 @@
 // The lines of a listing, each written at a place of a lent buffer.
 use answer::Answer;
+use answer::ROW;
+use answer::SPACE;
 use pieces::all_fractions;
 use pieces::put_pieces;
+use problem::PLACES;
+use problem::TERMS;
 use text::put_byte;
 use text::put_decimal;
 use text::put_text;
@@ -18,20 +22,8 @@ ghost use Rattle.text.specs.Wrote.{Wrote};
 ghost use Rattle.pieces.specs.Listable.{Listable, rowHeld};
 ghost use Rattle.lines.specs.Leaves.{leaves, listFirst};
 
-// 01, What comes back: 1 SPACE.
-const SPACE: u8 = 1;
-
-// 01, What comes back: 8 ROW.
-const ROW: u8 = 8;
-
 // 01, The listing: the bytes that have to follow the place reached.
 const ROOM: usize = 2048;
-
-// 01, The run: the rows of a table.
-const TERMS: usize = 64;
-
-// 01, What comes back: the places of each lent list.
-const PLACES: usize = 4160;
 
 // What listing answers: the new place reached, or the number of its refusal and the old place.
 pub enum Reached {

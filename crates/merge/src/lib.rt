@@ -1,8 +1,8 @@
 // Merging two terms: the difference of their rows, the unknown that it solves, and the fold into every row.
+use problem::COLUMNS;
+use problem::TERMS;
 use solve::Found;
-use table::COLUMNS;
 use table::Step;
-use table::TERMS;
 ghost use mathlib.Core.Path.{_≡_};
 ghost use Prim.Native.Nat.{ℕ, _*_, _<_, _≤_};
 ghost use lib.ListN.{length};

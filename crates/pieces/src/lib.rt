@@ -1,6 +1,8 @@
 // The pieces of a row's line: the test of its places, and their texts.
 use integer::euclid::greatest;
 use integer::signed::size;
+use problem::COLUMNS;
+use problem::TERMS;
 use text::put_byte;
 use text::put_decimal;
 ghost use mathlib.Core.Path.{_≡_};
@@ -19,11 +21,8 @@ ghost use Rattle.pieces.specs.Listable.{Long, Listable, rowHeld, overTex
 // 01, The run: the largest numerator and denominator.
 const LIMIT: u64 = 2147483647;
 
-// 01, The run: the columns of a row.
-const COLUMNS: usize = 65;
-
 // 01, The run: the column of the constant.
-const CONSTANT: usize = 64;
+const CONSTANT: usize = TERMS;
 
 // 01, The listing: "a fraction in lowest terms within the limits". A denominator above 0 is within them.
 pub fn is_fraction(num: i32, den: i32) -> bool

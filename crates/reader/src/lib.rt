@@ -1,8 +1,14 @@
 // The reader: from a byte string to the problem that it holds, or to the refusal that it gets.
 mod walk;
 
+use answer::COUNT;
+use answer::LENGTH;
+use answer::PAIR;
+use answer::SHORT;
+use answer::TERM;
 use cursor::Cursor;
 use problem::Kind;
+use problem::TERMS;
 use problem::Term;
 use record::TermRead;
 use record::read_term;
@@ -14,16 +20,6 @@ ghost use Rattle.problem.specs.Pairs.{pairThere};
 ghost use Rattle.problem.specs.Problem.{termAt};
 ghost use Rattle.reader.specs.Reads.{HeaderRead, Framed, readOf};
 ghost use Rattle.reader.specs.Held.{TermHeld, PairHeld, pairOf};
-
-const SHORT: u8 = 2;
-
-const COUNT: u8 = 3;
-
-const LENGTH: u8 = 4;
-
-const TERM: u8 = 5;
-
-const PAIR: u8 = 6;
 
 // The counts of terms and assumptions, and the sides of the goal.
 pub struct Header {
@@ -106,10 +102,10 @@ pub fn read_problem(bytes: &[u8]) -> Read
     if n < 1 {
         return refused(COUNT, 0);
     }
-    if 64 < n {
+    if TERMS < n {
         return refused(COUNT, 0);
     }
-    if 64 < m {
+    if TERMS < m {
         return refused(COUNT, 0);
     }
     if bytes.len() != 4 + 8 * n + 2 * m {

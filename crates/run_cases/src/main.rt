@@ -1,10 +1,10 @@
 // Decides problems, one a line in hexadecimal digits, and writes the listing of each. A line that begins with `#` is a remark, written
 // as it stands. Behind `<` the numerators lent are a place too short, behind `>` the denominators.
 
+use problem::PLACES;
+
 // 645 bytes are enough to judge any length.
 const INPUT: usize = 1024;
-
-const PLACES: usize = 4160;
 
 const TOO_FEW: usize = 4159;
 

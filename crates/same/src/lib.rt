@@ -1,7 +1,7 @@
 // When two terms have equal rows.
 use fraction::Fraction;
-use table::COLUMNS;
-use table::TERMS;
+use problem::COLUMNS;
+use problem::TERMS;
 use table::get;
 ghost use mathlib.Core.Path.{_≡_};
 ghost use Prim.Native.Nat.{_+_, _*_, _<_, _≤_};

@@ -2,9 +2,9 @@
 // columns of a set, outside of which the rows hold 0, and through the constant's, which `bits::next` comes to last.
 use arithmetic::Made;
 use fraction::Fraction;
-use table::COLUMNS;
+use problem::COLUMNS;
+use problem::TERMS;
 use table::Step;
-use table::TERMS;
 ghost use mathlib.Core.Path.{_≡_};
 ghost use mathlib.Core.Bool.{true};
 ghost use Prim.Native.Nat.{_+_, _<_, _≤_};

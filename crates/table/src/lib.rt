@@ -1,15 +1,10 @@
 // Fractions in two lists of 32-bit numbers.
 use fraction::Fraction;
+use problem::TERMS;
 ghost use mathlib.Core.Path.{_≡_};
 ghost use Prim.Native.Nat.{_+_, _*_, _<_, _≤_};
 ghost use lib.ListN.{length, set};
 ghost use Rattle.table.specs.Held.{heldAt};
-
-// The terms that a table has room for: the columns of the unknowns, before the constant's.
-pub const TERMS: usize = 64;
-
-// 01, The run: a row is "a fraction for each term number (columns 0 to 63) and a constant (column 64)".
-pub const COLUMNS: usize = TERMS + 1;
 
 // The sets of a run stand in one list: the columns of row t at t, then the lookups that use t, then the lookups before t of the
 // same function, and last those that closing has to look at again.

@@ -1,5 +1,5 @@
 -- The links of one more lookup are noted, and what is linked stays so.
--- Main results: `user-grown`, `user-there`, `grown-then`, `used-more`, `earlier-found`, `head-passed`, `linked-kept`, `linked-same`, `sparse-same`, `grown-traced`, `linked-other`, `linked-lookup`. Assume nothing.
+-- Main results: `user-grown`, `user-there`, `grown-then`, `used-more`, `earlier-found`, `head-passed`, `sparse-same`, `grown-traced`, `linked-other`, `linked-lookup`. Assume nothing.
 use mathlib.Core.Path.{_≡_, refl, sym, ap, _∙_}
 use mathlib.Core.Logic.{_⊎_, inl, inr, _≢_}
 use mathlib.Core.Bool.{true, _||_, or-true}
@@ -14,6 +14,7 @@ use lib.Seq.{getD-set-same, getD-set-other}
 use lib.IntN.{ℤ}
 use Rattle.bits.specs.Sets.{holds}
 use Rattle.table.specs.Sparse.{columnsOf, usersOf, earlierOf, Sparse, Linked}
+use Rattle.table.proofs.Linked.{linked-kept}
 use Rattle.build.specs.Links.{InputsSmall, UsedBelow, Traced, Grown}
 
 -- A set of users with lookup t added is stored in its place.
@@ -72,25 +73,7 @@ head-passed heads t i other none-after k above below same = by (ℕ-discrete k i
     by (yes at) = other (ap (λ x. getD heads x 0) (sym at) ∙ same)
     by (no apart) = none-after k (omega arith) below same
 
--- What is linked stays so, where the sets of the links lose nothing.
-pub linked-kept : {n : ℕ} {heads inputs sets heads′ inputs′ sets′ : List ℕ} → n ≤ 64 → InputsSmall n inputs → ((j : ℕ) → j < n → getD heads′ j 0 ≡ getD heads j 0) → ((k : ℕ) → k < 3 * n → getD inputs′ k 0 ≡ getD inputs k 0) → ((k j : ℕ) → 64 ≤ k → k < 128 + n → holds (getD sets k 0) j ≡ true → holds (getD sets′ k 0) j ≡ true) → Linked n heads inputs sets → Linked n heads′ inputs′ sets′
-unfolding usersOf earlierOf
-linked-kept {n} {heads} {inputs} {sets} {heads′} {inputs′} {sets′} few small same-heads same-inputs more linked =
-    record {
-      users = λ j k below place lookup.
-          let inside : 3 * j + k < 3 * n = omega arith in
-          let input = small .small (3 * j + k) inside in
-          ap (λ x. holds (getD sets′ (64 + x) 0) j) (same-inputs (3 * j + k) inside)
-          ∙ more (64 + getD inputs (3 * j + k) 0) j (omega arith) (omega arith) (linked .users j k below place (λ none. lookup (same-heads j below ∙ none)));
-      earlier = λ i j before below lookup same.
-          more (128 + j) i (omega arith) (omega arith) (linked .earlier i j before below (λ none. lookup (same-heads j below ∙ none)) (sym (same-heads i (omega arith)) ∙ same ∙ same-heads j below));
-    }
-
--- So they do where only sets of columns, or the pending ones, have changed.
-pub linked-same : {n : ℕ} {heads inputs sets sets′ : List ℕ} → n ≤ 64 → InputsSmall n inputs → ((k : ℕ) → 64 ≤ k → k < 192 → getD sets′ k 0 ≡ getD sets k 0) → Linked n heads inputs sets → Linked n heads inputs sets′
-linked-same few small same =
-    linked-kept few small (λ j below. refl) (λ k below. refl) (λ k j low high h. ap (λ s. holds s j) (same k low (omega arith)) ∙ h)
-
+-- Sets of columns that stay have the same rows within them.
 pub sparse-same : {n : ℕ} {nums : List ℤ} {sets sets′ : List ℕ} → ((k : ℕ) → k < n → getD sets′ k 0 ≡ getD sets k 0) → Sparse n nums sets → Sparse n nums sets′
 unfolding columnsOf
 sparse-same same sparse = record { within = λ t below. rw (same t below) (sparse .within t below) }
@@ -123,7 +106,7 @@ linked-other {t} {heads} none linked = linked-more (λ lookup. absurd (lookup no
 pub linked-lookup : {t : ℕ} {heads inputs sets₀ sets : List ℕ} (earlier : ℕ) → t < 64 → length sets ≡ 193 → InputsSmall (t + 1) inputs → Grown sets₀ sets → UsedBelow 3 t inputs sets → ((i : ℕ) → i < t → getD heads i 0 ≡ getD heads t 0 → holds earlier i ≡ true) → Linked t heads inputs sets₀ → Linked (t + 1) heads inputs (set sets (128 + t) earlier)
 unfolding usersOf earlierOf
 linked-lookup {t} {heads} {inputs} {sets₀} {sets} earlier few sized small grown used found linked =
-    linked-more (λ lookup. (own-users, own-earlier)) (linked-kept (omega arith) (record { small = λ k below. small .small k (omega arith) }) (λ j below. refl) (λ k below. refl) more linked)
+    linked-more (λ lookup. (own-users, own-earlier)) (linked-kept (omega arith) (λ j k below place. small .small (3 * j + k) (omega arith)) (λ j below. refl) (λ k below. refl) more linked)
   where
     more : (k j : ℕ) → 64 ≤ k → k < 128 + t → holds (getD sets₀ k 0) j ≡ true → holds (getD (set sets (128 + t) earlier) k 0) j ≡ true
     more k j low high h = ap (λ s. holds s j) (getD-set-other sets (128 + t) k earlier 0 (λ e. omega arith)) ∙ grown .more k j h

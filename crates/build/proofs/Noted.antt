@@ -20,7 +20,7 @@ use Rattle.table.specs.Calls.{headOf, inputOf, Calls, NotesKept}
 use Rattle.table.specs.Sparse.{Linked}
 use Rattle.build_rows.specs.Buildable.{Below}
 use Rattle.build.specs.Links.{InputsSmall}
-use Rattle.build.proofs.Linking.{linked-kept}
+use Rattle.table.proofs.Linked.{linked-kept}
 
 -- Inputs below a number are below any larger one.
 pub below-more : {own more : ℕ} (kind : Kind) → own ≤ more → Below own kind → Below more kind
@@ -142,4 +142,4 @@ module _ (t : ℕ) (kind : Kind) (inputs : List ℕ) {inputs′ : List ℕ} (inp
 
   pub linked-noted : {heads heads′ sets : List ℕ} → t < 64 → heads′ ≡ set heads t (headOf kind) → InputsSmall t inputs → Linked t heads inputs sets → Linked t heads′ inputs′ sets
   linked-noted {heads} small heads-are before linked =
-      linked-kept (omega arith) before (λ j below. ap (λ l. getD l j 0) heads-are ∙ getD-set-other heads t j (headOf kind) 0 (λ e. omega arith)) noted-before (λ k j low high h. h) linked
+      linked-kept (omega arith) (λ j k below place. before .small (3 * j + k) (omega arith)) (λ j below. ap (λ l. getD l j 0) heads-are ∙ getD-set-other heads t j (headOf kind) 0 (λ e. omega arith)) noted-before (λ k j low high h. h) linked

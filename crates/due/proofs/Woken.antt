@@ -17,7 +17,8 @@ use Rattle.run.specs.Row.{Table, COLUMNS, sameTo, sameRow}
 use Rattle.run.specs.Close.{isDue, due}
 use Rattle.invariant.proofs.Due.{none-due}
 use Rattle.table.specs.Held.{rowAt, tableAt}
-use Rattle.table.specs.Sparse.{usersOf, earlierOf, pendingOf, Linked, Stirred}
+use Rattle.table.specs.Sparse.{usersOf, pendingOf, Linked, Stirred}
+use Rattle.table.proofs.Linked.{linked-same}
 use Rattle.same.proofs.Equal.{same-rows}
 use Rattle.due.specs.Found.{Lookups, InputsBelow, sameInput, sameInputs, Awake}
 use Rattle.due.proofs.Heads.{due-alike, alike-due, due-heads}
@@ -33,15 +34,7 @@ pending-awake terms n table small all = record { found = λ i j before below is.
 
 -- The links are those of the places 64 to 191.
 pub linked-kept : {n : ℕ} {heads inputs sets₀ sets : List ℕ} → n ≤ 64 → InputsBelow n inputs → ((k : ℕ) → 64 ≤ k → k < 192 → getD sets k 0 ≡ getD sets₀ k 0) → Linked n heads inputs sets₀ → Linked n heads inputs sets
-unfolding usersOf earlierOf
-linked-kept {n} {heads} {inputs} {sets₀} {sets} small inputs-below links linked =
-    record {
-      users = λ j k below place lookup.
-          let input = inputs-below .below j k below place in
-          ap (λ set. holds set j) (links (64 + getD inputs (3 * j + k) 0) (omega arith) (omega arith)) ∙ linked .users j k below place lookup;
-      earlier = λ i j before below lookup one.
-          ap (λ set. holds set i) (links (128 + j) (omega arith) (omega arith)) ∙ linked .earlier i j before below lookup one;
-    }
+linked-kept few inputs-below = linked-same few (λ j k below place. omega (arith, inputs-below .below j k below place))
 
 module _ {terms : List Term} {n : ℕ} {heads inputs : List ℕ} {nums₀ dens₀ nums dens : List ℤ} {sets₀ sets : List ℕ}
     (lookups : Lookups terms n heads inputs) (inputs-below : InputsBelow n inputs) (linked : Linked n heads inputs sets₀)

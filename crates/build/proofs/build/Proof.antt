@@ -1,5 +1,6 @@
 use Rattle.build.proofs.Decoded.{term-buildable, kind-there}
-use Rattle.build.proofs.Linking.{linked-same, sparse-same}
+use Rattle.table.proofs.Linked.{linked-same}
+use Rattle.build.proofs.Linking.{sparse-same}
 use Rattle.build.proofs.Noted.{below-more, calls-noted, notes-more, inputs-noted, linked-noted}
 use Rattle.build.specs.Built.{TableBuilt}
 use Rattle.build.specs.Links.{InputsSmall}
@@ -17,7 +18,7 @@ use Rattle.table.specs.declared.Step.the-variants.{Done}
 use Rattle.build_rows.specs.Buildable.{Written, Buildable}
 use Rattle.build_rows.specs.Built.{RowBuilt}
 use native.Mathlib.Omega.{arith}
-use Prim.Native.Nat.{ℕ, _+_, _-_, _≤_, _<_}
+use Prim.Native.Nat.{ℕ, _+_, _-_, _≤_, _<_, _*_}
 use lib.ListN.{length, set}
 use lib.Seq.{getD-set-same, getD-set-other}
 use mathlib.Core.Path.{_≡_, refl, sym, ap, _∙_, subst}
@@ -170,7 +171,7 @@ loop-again c =
       b .build-term .kept .1 .1 .1 .1 .0 ∙ linked .note-links .kept .1 .1 .1 .0 ∙ l .loop .inv .5,
       inputs-after call,
       row .1 .0,
-      linked-same (omega arith) (inputs-after call) (λ k low high. row .1 .1 k (λ e. omega arith)) (linked .note-links .ensures .0),
+      linked-same (omega arith) (λ j k below place. inputs-after call .small (3 * j + k) (omega arith)) (λ k low high. row .1 .1 k (λ e. omega arith)) (linked .note-links .ensures .0),
       λ p e. rising-goes-on (p .terms) (s .args .nums .now) (s .args .dens .now) (s .args .heads .now) (s .args .inputs .now) (l .loop .t) (omega (arith, turn call .loop-test .taken, count s p e)) (row-next b p e) (l .loop .inv .9 p e) (c .enum-told .given .1) (kept-notes call (l .loop .t + 1) (omega arith)) (noted call p e),
     )
 
@@ -236,7 +237,7 @@ returns-2 c p e =
     subst (λ t. TableBuilt (p .terms) t Done n d (l .loop .nums) (l .loop .dens) (s .args .heads .now) (s .args .inputs .now) (l .loop .heads) (l .loop .inputs) (set sets 192 ALL)) all
     (rising-ends (p .terms) n d (s .args .heads .now) (s .args .inputs .now) (l .loop .t) (all ∙ count s p e) (l .loop .inv .9 p e)
     (sparse-same (λ k below. getD-set-other sets 192 k ALL 0 (λ at. omega arith)) (l .loop .inv .7))
-    (linked-same few (l .loop .inv .6) (λ k low high. getD-set-other sets 192 k ALL 0 (λ at. omega arith)) (l .loop .inv .8))
+    (linked-same few (λ j k below place. l .loop .inv .6 .small (3 * j + k) (omega arith)) (λ k low high. getD-set-other sets 192 k ALL 0 (λ at. omega arith)) (l .loop .inv .8))
     (λ j below. ap (λ x. holds x j) (getD-set-same sets 192 ALL 0 (omega arith)) ∙ holds-all j below))
 
 pub build-spec : {M : Type 1} → statement M

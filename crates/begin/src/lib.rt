@@ -30,7 +30,7 @@ pub fn begin(
     requires { ⌜ n ≡ field (now bytes) 0 8 ⌝ }
     requires { ⌜ (4160 ≤ length (now nums)) × (4160 ≤ length (now dens)) ⌝ }
     requires { ⌜ (length (now heads) ≡ 64) × (length (now inputs) ≡ 192) ⌝ }
-    requires { ⌜ length (now sets) ≡ 193 ⌝ }
+    requires { ⌜ length (now sets) ≡ 194 ⌝ }
     ensures { λ r. ⌜ ((problem : Problem) → decoded (now (bytes .entry)) ≡ made problem → rule.begin byNumber (problem .terms) ≡ ran r (tableAt n (now (nums .exit)) (now (dens .exit)))) ⌝ }
     ensures { λ r. ⌜ Kept 0 (65 * n) (now (nums .entry)) (now (dens .entry)) (now (nums .exit)) (now (dens .exit)) ⌝ }
     ensures { λ r. ⌜ WhileGoing (Prepared (now (bytes .entry)) n (now (nums .exit)) (now (dens .exit)) (now (heads .exit)) (now (inputs .exit)) (now (sets .exit))) r ⌝ }

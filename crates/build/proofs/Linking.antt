@@ -103,7 +103,7 @@ pub linked-other : {t : ℕ} {heads inputs sets : List ℕ} → getD heads t 0 �
 linked-other {t} {heads} none linked = linked-more (λ lookup. absurd (lookup none)) linked
 
 -- One lookup more: its users have grown, and its earlier ones are stored in their place.
-pub linked-lookup : {t : ℕ} {heads inputs sets₀ sets : List ℕ} (earlier : ℕ) → t < 64 → length sets ≡ 193 → InputsSmall (t + 1) inputs → Grown sets₀ sets → UsedBelow 3 t inputs sets → ((i : ℕ) → i < t → getD heads i 0 ≡ getD heads t 0 → holds earlier i ≡ true) → Linked t heads inputs sets₀ → Linked (t + 1) heads inputs (set sets (128 + t) earlier)
+pub linked-lookup : {t : ℕ} {heads inputs sets₀ sets : List ℕ} (earlier : ℕ) → t < 64 → length sets ≡ 194 → InputsSmall (t + 1) inputs → Grown sets₀ sets → UsedBelow 3 t inputs sets → ((i : ℕ) → i < t → getD heads i 0 ≡ getD heads t 0 → holds earlier i ≡ true) → Linked t heads inputs sets₀ → Linked (t + 1) heads inputs (set sets (128 + t) earlier)
 unfolding usersOf earlierOf
 linked-lookup {t} {heads} {inputs} {sets₀} {sets} earlier few sized small grown used found linked =
     linked-more (λ lookup. (own-users, own-earlier)) (linked-kept (omega arith) (λ j k below place. small .small (3 * j + k) (omega arith)) (λ j below. refl) (λ k below. refl) more linked)

@@ -13,11 +13,11 @@ use Rattle.table.specs.declared.Step.the-variants.{Done}
 use Rattle.table.specs.Held.{tableAt, SoundTo, finished}
 use Rattle.table.specs.Loop.{Kept}
 use Rattle.table.specs.Calls.{Calls, NotesKept}
-use Rattle.table.specs.Sparse.{Sparse, Linked, pendingOf}
+use Rattle.table.specs.Sparse.{Sparse, Linked, pendingOf, openOf}
 
 -- The rows of the terms are those that the rule builds, or the rule refuses one of them; no place behind them, or behind what is
 -- noted of the terms, has changed; where all are built, they are sound, the lookups are noted, the sets have room for the rows'
--- columns and the lookups' links, and every lookup is one to look at.
+-- columns and the lookups' links, and every lookup is open and one to look at.
 pub record TableBuilt (terms : List Term) (n : ℕ) (step : Step) (nums₀ dens₀ nums dens : List ℤ) (heads₀ inputs₀ heads inputs sets : List ℕ) : Type 0 where
   pub ends : built terms [] ≡ finished step (tableAt n nums dens)
   pub kept : Kept 0 (65 * n) nums₀ dens₀ nums dens
@@ -27,3 +27,4 @@ pub record TableBuilt (terms : List Term) (n : ℕ) (step : Step) (nums₀ dens�
   pub sparse : step ≡ Done → Sparse n nums sets
   pub linked : step ≡ Done → Linked n heads inputs sets
   pub pending : step ≡ Done → (j : ℕ) → j < 64 → holds (pendingOf sets) j ≡ true
+  pub opened : step ≡ Done → (j : ℕ) → j < 64 → holds (openOf sets) j ≡ true

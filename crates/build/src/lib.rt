@@ -6,6 +6,7 @@ use crate::call::note_call;
 use crate::links::note_links;
 use build_rows::build_term;
 use reader::term_at;
+use table::OPEN;
 use table::PENDING;
 use table::Step;
 ghost use mathlib.Core.Path.{_≡_};
@@ -17,8 +18,8 @@ ghost use Rattle.problem.specs.Problem.{Problem, decoded};
 ghost use Rattle.reader.specs.Held.{Held};
 ghost use Rattle.build.specs.Built.{TableBuilt};
 
-// The rows, the calls and the links of the n terms that the bytes hold, until a row is refused. At the end every lookup is one that
-// closing has to look at. The users of a term are added to what its set holds at entry.
+// The rows, the calls and the links of the n terms that the bytes hold, until a row is refused. At the end every lookup is open, and
+// one that closing has to look at. The users of a term are added to what its set holds at entry.
 pub fn build(
     bytes: &[u8],
     n: usize,
@@ -32,7 +33,7 @@ pub fn build(
     requires { ⌜ n ≡ field (now bytes) 0 8 ⌝ }
     requires { ⌜ (4160 ≤ length (now nums)) × (4160 ≤ length (now dens)) ⌝ }
     requires { ⌜ (length (now heads) ≡ 64) × (length (now inputs) ≡ 192) ⌝ }
-    requires { ⌜ length (now sets) ≡ 193 ⌝ }
+    requires { ⌜ length (now sets) ≡ 194 ⌝ }
     ensures { λ r. ⌜ ((problem : Problem) → decoded (now (bytes .entry)) ≡ made problem → TableBuilt (problem .terms) n r (now (nums .entry)) (now (dens .entry)) (now (nums .exit)) (now (dens .exit)) (now (heads .entry)) (now (inputs .entry)) (now (heads .exit)) (now (inputs .exit)) (now (sets .exit))) ⌝ }
 {
     let mut t: usize = 0;
@@ -48,5 +49,6 @@ pub fn build(
         }
     }
     sets[PENDING] = bits::ALL;
+    sets[OPEN] = bits::ALL;
     Step::Done
 }

@@ -12,7 +12,7 @@ ghost use Rattle.build.specs.Links.{InputsSmall, UsedBelow, Traced, Grow
 
 // Lookup t uses this input.
 fn note_user(input: u8, t: usize, sets: &mut [u64])
-    requires { ⌜ (t < 64) × (input < 64) × (length (now sets) ≡ 193) ⌝ }
+    requires { ⌜ (t < 64) × (input < 64) × (length (now sets) ≡ 194) ⌝ }
     ensures { λ r. ⌜ Grown (now (sets .entry)) (now (sets .exit)) ⌝ }
     ensures { λ r. ⌜ holds (usersOf (now (sets .exit)) input) t ≡ true ⌝ }
 {
@@ -23,7 +23,7 @@ fn note_user(input: u8, t: usize, sets: &mut [u64])
 
 // Lookup t uses what stands in its three places. One without an input holds 0, so that t is noted as a user of term 0 too.
 fn note_users(t: usize, inputs: &[u8], sets: &mut [u64])
-    requires { ⌜ (t < 64) × (length (now inputs) ≡ 192) × (length (now sets) ≡ 193) ⌝ }
+    requires { ⌜ (t < 64) × (length (now inputs) ≡ 192) × (length (now sets) ≡ 194) ⌝ }
     requires { ⌜ InputsSmall (t + 1) (now inputs) ⌝ }
     ensures { λ r. ⌜ Grown (now (sets .entry)) (now (sets .exit)) ⌝ }
     ensures { λ r. ⌜ UsedBelow 3 t (now (inputs .entry)) (now (sets .exit)) ⌝ }
@@ -37,7 +37,7 @@ fn note_users(t: usize, inputs: &[u8], sets: &mut [u64])
 
 // The lookups before t with its head: the latest of them, and those noted for it.
 fn earlier_of(heads: &[u16], sets: &[u64], t: usize) -> u64
-    requires { ⌜ (t < 64) × (length (now heads) ≡ 64) × (length (now sets) ≡ 193) ⌝ }
+    requires { ⌜ (t < 64) × (length (now heads) ≡ 64) × (length (now sets) ≡ 194) ⌝ }
     requires { ⌜ Traced t (now heads) (now sets) ⌝ }
     requires { ⌜ (getD (now heads) t 0 ≡ 0 → ⊥) ⌝ }
     ensures { λ r. ⌜ ((i : ℕ) → i < t → getD (now (heads .entry)) i 0 ≡ getD (now (heads .entry)) t 0 → holds r i ≡ true) ⌝ }
@@ -55,7 +55,7 @@ fn earlier_of(heads: &[u16], sets: &[u64], t: usize) -> u64
 
 // Term t, whose head and inputs are noted, is linked, if it is a lookup.
 pub(crate) fn note_links(t: usize, heads: &[u16], inputs: &[u8], sets: &mut [u64])
-    requires { ⌜ (t < 64) × (length (now heads) ≡ 64) × (length (now inputs) ≡ 192) × (length (now sets) ≡ 193) ⌝ }
+    requires { ⌜ (t < 64) × (length (now heads) ≡ 64) × (length (now inputs) ≡ 192) × (length (now sets) ≡ 194) ⌝ }
     requires { ⌜ InputsSmall (t + 1) (now inputs) ⌝ }
     requires { ⌜ Linked t (now heads) (now inputs) (now sets) ⌝ }
     ensures { λ r. ⌜ Linked (t + 1) (now (heads .entry)) (now (inputs .entry)) (now (sets .exit)) ⌝ }

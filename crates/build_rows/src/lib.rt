@@ -94,7 +94,7 @@ fn blank_row(t: usize, nums: &mut [i32], dens: &mut [i32])
 
 // The terms' columns in which the row of term t can hold something else than 0, by those of the rows before it.
 fn columns_of(kind: Kind, t: usize, sets: &[u64]) -> u64
-    requires { ⌜ (t < 64) × (length (now sets) ≡ 193) ⌝ }
+    requires { ⌜ (t < 64) × (length (now sets) ≡ 194) ⌝ }
     requires { ⌜ Below t kind ⌝ }
     ensures { λ r. ⌜ ((c : ℕ) → holds r c ≡ mayHold (now (sets .entry)) t kind c) ⌝ }
 {
@@ -143,7 +143,7 @@ pub fn build_term(
     requires { ⌜ (t < 64) × (4160 ≤ length (now nums)) × (4160 ≤ length (now dens)) ⌝ }
     requires { ⌜ SoundTo (65 * t) (now nums) (now dens) ⌝ }
     requires { ⌜ Buildable Written t (term .kind) ⌝ }
-    requires { ⌜ length (now sets) ≡ 193 ⌝ }
+    requires { ⌜ length (now sets) ≡ 194 ⌝ }
     requires { ⌜ Sparse t (now nums) (now sets) ⌝ }
     ensures { λ r. ⌜ RowBuilt (term .kind) t r (now (nums .entry)) (now (dens .entry)) (now (nums .exit)) (now (dens .exit)) ⌝ }
     ensures { λ r. ⌜ Sparse (t + 1) (now (nums .exit)) (now (sets .exit)) ⌝ }

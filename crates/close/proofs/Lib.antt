@@ -1,3 +1,4 @@
 pub mod Turns
 pub mod Unique
 pub mod Sets
+pub mod Waking

@@ -1,23 +1,37 @@
--- The sets after a merge, and where no pair is due.
--- Main results: `ready-merged`, `ready-asleep`, `merged-awake`. Assume nothing.
-use mathlib.Core.Path.{_≡_, sym, ap, _∙_, subst}
-use mathlib.Core.Logic.{_≢_}
-use mathlib.Core.List.{List}
+-- The sets after a merge, and where lookups are noted pair by pair.
+-- Main results: `ready-merged`, `ready-kept`, `ready-woken`, `ready-shut`, `merged-awake`, `shut-watched`, `woken-watched`. Assume nothing.
+use mathlib.Core.Path.{_≡_, refl, sym, ap, ap₂, _∙_, subst}
+use mathlib.Core.Logic.{_≢_, _⊎_, inl, inr}
+use mathlib.Core.Bool.{Bool, true, false, not, _&&_, _||_, false≢true, and-eq-true-iff, or-true}
+use mathlib.Core.List.{List, []}
 use Prim.Native.Nat.{ℕ, _*_, _≤_, _<_}
+use native.Mathlib.Decide.{ℕ-discrete}
 use native.Mathlib.Omega.{arith}
+use borrow.Author.Tests.{ne-eqb}
+use lib.Dec.{eqb}
 use lib.ListN.{length, getD, set, length-set}
-use lib.Seq.{getD-set-other}
+use lib.Seq.{getD-set-same, getD-set-other}
 use lib.IntN.{ℤ}
+use Rattle.bits.specs.Sets.{holds}
+use Rattle.bits.proofs.Digits.{holds-none}
 use Rattle.fraction.specs.Made.{made}
 use Rattle.problem.specs.declared.Term.{Term}
+use Rattle.run.specs.Row.{Table, sameRow}
+use Rattle.run.specs.Close.{isDue}
 use Rattle.run.specs.Merge.{merge}
 use Rattle.run.specs.Run.{byNumber}
+use Rattle.invariant.proofs.Due.{T-true, Due}
 use Rattle.invariant.proofs.Keeps.{merge-keeps-equal}
+use Rattle.invariant.proofs.Meets.{merge-meets}
+use Rattle.invariant.proofs.Rows.{sameRows-equal}
 use Rattle.table.specs.Held.{tableAt}
-use Rattle.table.specs.Sparse.{Within, columnsOf, Sparse, Linked, Stirred}
-use Rattle.due.specs.Found.{Lookups, InputsBelow, Awake}
-use Rattle.due.proofs.Woken.{linked-kept, stirred-awake}
+use Rattle.table.specs.Sparse.{Within, columnsOf, earlierOf, pendingOf, openOf, Sparse, Linked, Stirred}
+use Rattle.due.specs.Found.{Lookups, InputsBelow, Twin, Looked, Finds, Watched, Awake}
+use Rattle.due.proofs.Heads.{due-heads}
+use Rattle.due.proofs.Twins.{rows-kept, twin-kept}
+use Rattle.due.proofs.Woken.{linked-kept, stirred-finds}
 use Rattle.close.specs.Ready.{Ready}
+use Rattle.close.specs.Woken.{isWoken, Woken}
 
 module _ {n : ℕ} {heads inputs : List ℕ} (few : n ≤ 64) (inputs-below : InputsBelow n inputs) {nums : List ℤ} {sets : List ℕ} (ready : Ready n nums heads inputs sets) where
   -- A merge keeps the links, and notes the columns of the rows that it changes.
@@ -26,25 +40,108 @@ module _ {n : ℕ} {heads inputs : List ℕ} (few : n ≤ 64) (inputs-below : In
       record {
         size = stirred .same-length ∙ ready .size;
         sparse = sparse;
-        linked = linked-kept few inputs-below (stirred .links) (ready .linked);
+        linked = linked-kept few inputs-below (λ k low high. stirred .links k low (λ e. omega arith)) (ready .linked);
       }
 
-  -- Whatever is pending, the rest stays.
-  pub ready-asleep : Ready n nums heads inputs (set sets 192 0)
+  -- Whatever is pending or open, the rest stays.
+  pub ready-kept : {sets′ : List ℕ} → length sets′ ≡ length sets → ((k : ℕ) → k < 192 → getD sets′ k 0 ≡ getD sets k 0) → Ready n nums heads inputs sets′
   unfolding columnsOf
-  ready-asleep =
+  ready-kept same-length same =
       record {
-        size = length-set sets 192 0 ∙ ready .size;
-        sparse = record { within = λ t below. subst (λ s. Within s (65 * t) nums) (sym (other t (λ same. omega arith))) (ready .sparse .within t below) };
-        linked = linked-kept few inputs-below (λ k low high. other k (λ same. omega arith)) (ready .linked);
+        size = same-length ∙ ready .size;
+        sparse = record { within = λ t below. subst (λ s. Within s (65 * t) nums) (sym (same t (omega arith))) (ready .sparse .within t below) };
+        linked = linked-kept few inputs-below (λ k low high. same k high) (ready .linked);
       }
-    where
-      other : (k : ℕ) → k ≢ 192 → getD (set sets 192 0) k 0 ≡ getD sets k 0
-      other k apart = getD-set-other sets 192 k 0 0 apart
 
--- A merge leaves equal rows equal, so no pair falls due whose sides are not pending.
-pub merged-awake : {terms : List Term} {n : ℕ} {heads inputs : List ℕ} {nums dens nums′ dens′ : List ℤ} {sets sets′ : List ℕ} (left right before after : ℕ) → Lookups terms n heads inputs → InputsBelow n inputs → Linked n heads inputs sets → Stirred n nums dens nums′ dens′ sets sets′ → merge byNumber left right (record { table = tableAt n nums dens; solved = before }) ≡ made (record { table = tableAt n nums′ dens′; solved = after }) → Awake terms n (tableAt n nums dens) sets → Awake terms n (tableAt n nums′ dens′) sets′
-merged-awake left right before after lookups inputs-below linked stirred goes-on awake =
-    stirred-awake lookups inputs-below linked stirred
-    (λ t u _ _ equal. merge-keeps-equal byNumber _ _ left right goes-on t u equal)
-    awake
+  -- So where pairs are noted, and where a lookup is shut.
+  pub ready-woken : {sets₁ : List ℕ} (waiting waiting₁ : List ℕ) → Woken n sets sets₁ waiting waiting₁ → Ready n nums heads inputs sets₁
+  ready-woken waiting waiting₁ woken = ready-kept (woken .same-length) (λ k low. woken .others k (λ e. omega arith))
+
+  pub ready-shut : (shut : ℕ) → Ready n nums heads inputs (set sets 193 shut)
+  ready-shut shut = ready-kept (length-set sets 193 shut) (λ k low. getD-set-other sets 193 k shut 0 (λ e. omega arith))
+
+-- A set without one number.
+shut-cases : (same before : Bool) → (not same && before) ≡ false → (same ≡ true) ⊎ (before ≡ false)
+shut-cases true before e = inl refl
+shut-cases false before e = inr e
+
+eqb-same : (k l : ℕ) → eqb k l ≡ true → k ≡ l
+eqb-same k l e = by (ℕ-discrete k l)
+  where
+    by : Dec (k ≡ l) → k ≡ l
+    by (yes same) = same
+    by (no other) = absurd (false≢true (sym (ne-eqb k l other) ∙ e))
+
+module _ {terms : List Term} {n : ℕ} {heads inputs : List ℕ} {nums dens nums′ dens′ : List ℤ} {sets sets′ : List ℕ} (left right before after : ℕ)
+    (lookups : Lookups terms n heads inputs) (inputs-below : InputsBelow n inputs) (linked : Linked n heads inputs sets)
+    (stirred : Stirred n nums dens nums′ dens′ sets sets′)
+    (goes-on : merge byNumber left right (record { table = tableAt n nums dens; solved = before }) ≡ made (record { table = tableAt n nums′ dens′; solved = after })) where
+  -- A merge leaves equal rows equal, so no pair falls due whose sides are not pending.
+  stay : (t u : ℕ) → sameRow (tableAt n nums dens) t u ≡ true → sameRow (tableAt n nums′ dens′) t u ≡ true
+  stay = merge-keeps-equal byNumber _ _ left right goes-on
+
+  finds-on : (waiting : List ℕ) → Finds waiting terms n (tableAt n nums dens) sets → Finds waiting terms n (tableAt n nums′ dens′) sets′
+  finds-on waiting = stirred-finds lookups inputs-below linked stirred waiting stay
+
+  same-open : openOf sets′ ≡ openOf sets
+  unfolding openOf
+  same-open = stirred .links 193 (omega arith) (λ e. omega arith)
+
+  pub merged-awake : Awake terms n (tableAt n nums dens) sets → Awake terms n (tableAt n nums′ dens′) sets′
+  merged-awake awake =
+      record {
+        found = finds-on [] (awake .found);
+        twins = λ j below out. let (i, twin) = awake .twins j below (ap (λ s. holds s j) (sym same-open) ∙ out) in (i, twin-kept stay twin);
+      }
+
+  -- In closing the right side of the pair due is shut before the merge, which makes it a twin of the left side.
+  pub shut-watched : (waiting : List ℕ) {sets₁ : List ℕ} (shut : ℕ) → length sets₁ ≡ 194 → sets ≡ set sets₁ 193 shut → ((k : ℕ) → holds shut k ≡ (not (eqb k right) && holds (openOf sets₁) k)) → Due terms (tableAt n nums dens) left right → Watched waiting terms n (tableAt n nums dens) sets₁ → Watched waiting terms n (tableAt n nums′ dens′) sets′
+  unfolding openOf pendingOf
+  shut-watched waiting {sets₁} shut size stored told due watched =
+      record { found = finds-on waiting still; twins = λ j below out. by j below (shut-cases (eqb j right) (holds (openOf sets₁) j) (sym (told j) ∙ ap (λ s. holds s j) (sym now-shut ∙ sym same-open) ∙ out)) }
+    where
+      now-shut : getD sets 193 0 ≡ shut
+      now-shut = ap (λ s. getD s 193 0) stored ∙ getD-set-same sets₁ 193 shut 0 (omega arith)
+
+      was-open : (k : ℕ) → holds (getD sets 193 0) k ≡ true → holds (getD sets₁ 193 0) k ≡ true
+      was-open k inside = and-eq-true-iff (not (eqb k right)) (holds (getD sets₁ 193 0) k) .0 (sym (told k) ∙ ap (λ s. holds s k) (sym now-shut) ∙ inside) .1
+
+      same-pending : getD sets 192 0 ≡ getD sets₁ 192 0
+      same-pending = ap (λ s. getD s 192 0) stored ∙ getD-set-other sets₁ 193 192 shut 0 (λ e. omega arith)
+
+      looked : (i j : ℕ) → Looked waiting sets₁ i j → Looked waiting sets i j
+      looked i j (inl waits) = inl waits
+      looked i j (inr (inl was)) = inr (inl (ap (λ s. holds s i) same-pending ∙ was))
+      looked i j (inr (inr was)) = inr (inr (ap (λ s. holds s j) same-pending ∙ was))
+
+      still : Finds waiting terms n (tableAt n nums dens) sets
+      still i j first below is i-open j-open = looked i j (watched .found i j first below is (was-open i i-open) (was-open j j-open))
+
+      merged : Twin terms (tableAt n nums′ dens′) left right
+      merged = record { before = due .before; similar = T-true _ (due .similar); inputs = rows-kept _ _ stay _ _ (sameRows-equal (tableAt n nums dens) _ _ .1 (due .inputs)); own = merge-meets byNumber _ _ left right goes-on }
+
+      by : (j : ℕ) → j < n → (eqb j right ≡ true) ⊎ (holds (openOf sets₁) j ≡ false) → (i : ℕ) × Twin terms (tableAt n nums′ dens′) i j
+      by j below (inl same) = (left, subst (Twin terms (tableAt n nums′ dens′) left) (sym (eqb-same j right same)) merged)
+      by j below (inr out) = let (i, twin) = watched .twins j below out in (i, twin-kept stay twin)
+
+-- The pairs of pending lookups wait.
+pub woken-watched : {terms : List Term} {n : ℕ} {table : Table} {heads inputs sets₀ sets : List ℕ} (waiting₀ waiting : List ℕ) → Lookups terms n heads inputs → Linked n heads inputs sets₀ → Woken n sets₀ sets waiting₀ waiting → Watched waiting₀ terms n table sets₀ → Watched waiting terms n table sets
+unfolding openOf
+woken-watched {terms} {n} {table} {heads} {inputs} {sets₀} {sets} waiting₀ waiting lookups linked woken watched =
+    record {
+      found = λ i j before below is i-open j-open. inl (woken .waits i j below ∙ by i j before below is (watched .found i j before below is (ap (λ s. holds s i) (sym same-open) ∙ i-open) (ap (λ s. holds s j) (sym same-open) ∙ j-open)));
+      twins = λ j below out. watched .twins j below (ap (λ s. holds s j) (sym same-open) ∙ out);
+    }
+  where
+    same-open : getD sets 193 0 ≡ getD sets₀ 193 0
+    same-open = woken .others 193 (λ e. omega arith)
+
+    noted : (i j : ℕ) → i < j → j < n → isDue terms table i j ≡ true → (holds (pendingOf sets₀) i || holds (pendingOf sets₀) j) ≡ true → (holds (getD waiting₀ j 0) i || isWoken sets₀ i j) ≡ true
+    noted i j before below is stirred =
+        let one = due-heads terms n heads inputs lookups table i j (omega arith) below is in
+        ap (λ b. holds (getD waiting₀ j 0) i || b) (ap₂ _&&_ (linked .earlier i j before below (one .0) (one .1)) stirred) ∙ or-true (holds (getD waiting₀ j 0) i)
+
+    by : (i j : ℕ) → i < j → j < n → isDue terms table i j ≡ true → Looked waiting₀ sets₀ i j → (holds (getD waiting₀ j 0) i || isWoken sets₀ i j) ≡ true
+    by i j before below is (inl waits) = ap (λ b. b || isWoken sets₀ i j) waits
+    by i j before below is (inr (inl left)) = noted i j before below is (ap (λ b. b || holds (pendingOf sets₀) j) left)
+    by i j before below is (inr (inr right)) = noted i j before below is (ap (λ b. holds (pendingOf sets₀) i || b) right ∙ or-true (holds (pendingOf sets₀) i))

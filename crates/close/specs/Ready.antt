@@ -9,6 +9,6 @@ use Rattle.table.specs.Sparse.{Sparse, Linked}
 
 -- All are there; each row's columns are within its set; users and earlier lookups are noted.
 pub record Ready (n : ℕ) (nums : List ℤ) (heads inputs sets : List ℕ) : Type 0 where
-  pub size : length sets ≡ 193
+  pub size : length sets ≡ 194
   pub sparse : Sparse n nums sets
   pub linked : Linked n heads inputs sets

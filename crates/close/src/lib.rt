@@ -1,6 +1,11 @@
 // Closing the table under congruence.
+mod wake;
+
+use crate::wake::wake;
 use due::Due;
 use merge::Merged;
+use problem::TERMS;
+use table::OPEN;
 use table::PENDING;
 ghost use mathlib.Core.Path.{_≡_};
 ghost use mathlib.Core.List.{List};
@@ -24,7 +29,8 @@ pub enum Closed {
 }
 
 // 01, Close: the pair due is merged, "repeat until there is none". Each merge there solves one more unknown, so one turn more
-// than there are terms leaves no pair due. Where none is, no lookup is pending.
+// than there are terms leaves no pair due; were it otherwise, every lookup would be looked at again. The right side of a pair that is
+// merged is looked at no more: whatever is due with it is due with the left side, which comes first.
 pub fn close(
     nums: &mut [i32],
     dens: &mut [i32],
@@ -47,24 +53,31 @@ pub fn close(
     ensures { λ r. ⌜ WhileOpen (Ready n (now (nums .exit)) (now (heads .entry)) (now (inputs .entry)) (now (sets .exit))) r ⌝ }
     ensures { λ r. ⌜ ((terms : List Term) → Lookups terms n (now (heads .entry)) (now (inputs .entry)) → Awake terms n (tableAt n (now (nums .entry)) (now (dens .entry))) (now (sets .entry)) → WhileOpen (Awake terms n (tableAt n (now (nums .exit)) (now (dens .exit))) (now (sets .exit))) r) ⌝ }
 {
+    if sets[PENDING] == 0 {
+        return Closed::Going(solved);
+    }
+    let mut waiting = [0u64; TERMS];
     let mut count = solved;
     let mut turns = n + 1;
     while 0 < turns {
-        match due::find_due(nums, dens, n, heads, inputs, sets) {
-            Due::Closed => {
-                sets[PENDING] = 0;
-                return Closed::Going(count);
-            }
-            Due::Pair { left, right } => match merge::merge(nums, dens, n, left, right, sets) {
-                Merged::Nothing => turns -= 1,
-                Merged::Solved => {
-                    count += 1;
-                    turns -= 1;
+        wake(n, sets, &mut waiting);
+        match due::find_due(nums, dens, n, heads, inputs, sets, &mut waiting) {
+            Due::Closed => return Closed::Going(count),
+            Due::Pair { left, right } => {
+                let open = bits::without(sets[OPEN], right);
+                sets[OPEN] = open;
+                match merge::merge(nums, dens, n, left, right, sets) {
+                    Merged::Nothing => turns -= 1,
+                    Merged::Solved => {
+                        count += 1;
+                        turns -= 1;
+                    }
+                    Merged::Contradiction => return Closed::Contradiction,
+                    Merged::Refused(number) => return Closed::Refused(number),
                 }
-                Merged::Contradiction => return Closed::Contradiction,
-                Merged::Refused(number) => return Closed::Refused(number),
-            },
+            }
         }
     }
+    sets[PENDING] = bits::ALL;
     Closed::Going(count)
 }

@@ -6,7 +6,7 @@ use problem::TERMS;
 use reader::Header;
 use reader::Read;
 use steps::Ran;
-use table::PENDING;
+use table::OPEN;
 ghost use mathlib.Core.Path.{_≡_};
 ghost use Prim.Native.Nat.{_*_, _<_, _≤_};
 ghost use lib.ListN.{length};
@@ -39,7 +39,7 @@ fn run_all(
     requires { ⌜ Held (now bytes) ⌝ }
     requires { ⌜ (n ≡ field (now bytes) 0 8) × (m ≡ field (now bytes) 8 8) ⌝ }
     requires { ⌜ (4160 ≤ length (now nums)) × (4160 ≤ length (now dens)) ⌝ }
-    requires { ⌜ (length (now heads) ≡ 64) × (length (now inputs) ≡ 192) × (length (now sets) ≡ 193) ⌝ }
+    requires { ⌜ (length (now heads) ≡ 64) × (length (now inputs) ≡ 192) × (length (now sets) ≡ 194) ⌝ }
     ensures { λ r. ⌜ ((problem : Problem) → decoded (now (bytes .entry)) ≡ made problem → rule.run byNumber problem ≡ ran r (tableAt n (now (nums .exit)) (now (dens .exit)))) ⌝ }
     ensures { λ r. ⌜ Kept 0 (65 * n) (now (nums .entry)) (now (dens .entry)) (now (nums .exit)) (now (dens .exit)) ⌝ }
     ensures { λ r. ⌜ WhileGoing (SoundTo (65 * n) (now (nums .exit)) (now (dens .exit))) r ⌝ }
@@ -69,7 +69,7 @@ fn decide_sound(bytes: &[u8], header: Header, nums: &mut [i32], dens: &mut [i32]
     let n = header.n;
     let mut heads = [0u16; TERMS];
     let mut inputs = [0u8; 3 * TERMS];
-    let mut sets = [0u64; PENDING + 1];
+    let mut sets = [0u64; OPEN + 1];
     match run_all(
         bytes,
         n,

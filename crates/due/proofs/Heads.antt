@@ -149,12 +149,3 @@ module _ (terms : List Term) (n : ℕ) (heads inputs : List ℕ) (lookups : Look
       let lookup : headOf left ≡ 0 → ⊥ = λ none. false≢true (sym (no-lookup left right none) ∙ alike-due is) in
       let one : headOf left ≡ headOf right = eqb-true (headOf left) (headOf right) (one-head left right (lookups .symbols i p) (lookups .symbols j q) lookup ∙ alike-due is) in
       (λ none. lookup (one ∙ sym (lookups .calls .head j q) ∙ none), lookups .calls .head i p ∙ one ∙ sym (lookups .calls .head j q))
-
--- Where the own rows are equal a pair is not due; where they are not, the inputs decide.
-pub merged-already : (inputs : Bool) {own : Bool} → own ≡ true → (inputs && not own) ≡ false
-merged-already true equal = ap not equal
-merged-already false equal = refl
-
-pub inputs-decide : (inputs : Bool) {own : Bool} → own ≡ false → (inputs && not own) ≡ inputs
-inputs-decide true unequal = ap not unequal
-inputs-decide false unequal = refl

@@ -2,5 +2,6 @@ pub mod Heads
 pub mod Passed
 pub mod Search
 pub mod Shown
+pub mod Twins
 pub mod Unique
 pub mod Woken

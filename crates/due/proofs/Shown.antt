@@ -13,14 +13,14 @@ use Rattle.problem.specs.declared.Term.{Term}
 use Rattle.problem.specs.Lookup.{callOf, inputsOf, kindAt}
 use Rattle.run.specs.Row.{Table}
 use Rattle.table.specs.Calls.{headOf, inputOf, Calls}
-use Rattle.table.specs.Sparse.{usersOf, earlierOf, pendingOf, Linked}
+use Rattle.table.specs.Sparse.{usersOf, earlierOf, pendingOf, openOf, Linked}
 use Rattle.due.specs.Found.{symbolOf, Lookups, InputsBelow, Awake}
 use Rattle.due.proofs.Heads.{inputs-below}
-use Rattle.due.proofs.Woken.{pending-awake}
+use Rattle.due.proofs.Woken.{all-awake}
 
 -- sets that hold every number
 abbrev sets : List ℕ
-sets = replicate 193 18446744073709551615
+sets = replicate 194 18446744073709551615
 
 -- a variable, and lookup 7 of it twice
 abbrev terms : List Term
@@ -66,8 +66,8 @@ shown-lookups =
 pub shown-inputs : InputsBelow 3 inputs
 shown-inputs = inputs-below (shown-lookups .calls) (λ t i p q. omega (arith, input-zero t i p))
 
-holds-each : (k i : ℕ) → k < 193 → i < 64 → holds (getD sets k 0) i ≡ true
-holds-each k i place below = ap (λ set. holds set i) (getD-replicate 193 k 18446744073709551615 0 place) ∙ holds-all i below
+holds-each : (k i : ℕ) → k < 194 → i < 64 → holds (getD sets k 0) i ≡ true
+holds-each k i place below = ap (λ set. holds set i) (getD-replicate 194 k 18446744073709551615 0 place) ∙ holds-all i below
 
 pub shown-linked : Linked 3 heads inputs sets
 unfolding usersOf earlierOf
@@ -78,5 +78,5 @@ shown-linked =
     }
 
 pub shown-awake : (table : Table) → Awake terms 3 table sets
-unfolding pendingOf
-shown-awake table = pending-awake terms 3 table (omega arith) (λ k below. holds-each 192 k (omega arith) below)
+unfolding pendingOf openOf
+shown-awake table = all-awake terms 3 table (omega arith) (λ k below. holds-each 192 k (omega arith) below) (λ k below. holds-each 193 k (omega arith) below)

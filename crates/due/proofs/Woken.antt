@@ -1,5 +1,6 @@
--- When a pair that is due has a pending side: after closing, after a step that wakes the users of the rows it changes, and at the start.
--- Main results: `closed-sleeps`, `pending-awake`, `stirred-awake`, `linked-kept`. Assume nothing.
+-- When a pair that is due waits or has a pending side: after closing, after a step that wakes the users of the rows it changes, and at
+-- the start.
+-- Main results: `closed-sleeps`, `pending-awake`, `all-awake`, `stirred-finds`, `linked-kept`. Assume nothing.
 use mathlib.Core.Path.{_≡_, refl, sym, ap, ap₂, _∙_}
 use mathlib.Core.Logic.{_⊎_, inl, inr}
 use mathlib.Core.Bool.{Bool, true, false, not, _&&_, false≢true, and-eq-true-iff}
@@ -17,20 +18,24 @@ use Rattle.run.specs.Row.{Table, COLUMNS, sameTo, sameRow}
 use Rattle.run.specs.Close.{isDue, due}
 use Rattle.invariant.proofs.Due.{none-due}
 use Rattle.table.specs.Held.{rowAt, tableAt}
-use Rattle.table.specs.Sparse.{usersOf, pendingOf, Linked, Stirred}
+use Rattle.table.specs.Sparse.{usersOf, pendingOf, openOf, Linked, Stirred}
 use Rattle.table.proofs.Linked.{linked-same}
 use Rattle.same.proofs.Equal.{same-rows}
-use Rattle.due.specs.Found.{Lookups, InputsBelow, sameInput, sameInputs, Awake}
+use Rattle.due.specs.Found.{Lookups, InputsBelow, sameInput, sameInputs, Twin, Looked, Finds, Watched, Awake}
 use Rattle.due.proofs.Heads.{due-alike, alike-due, due-heads}
 
--- Where no pair is due, nothing has to be pending.
-pub closed-sleeps : {terms : List Term} {n : ℕ} {table : Table} → length terms ≡ n → due terms table ≡ none → (sets : List ℕ) → Awake terms n table sets
-closed-sleeps {terms} {n} {table} count closed sets =
-    record { found = λ i j before below is. absurd (false≢true (sym (none-due terms table closed i j before (omega arith)) ∙ is)) }
+-- Where no pair is due, nothing has to wait.
+pub closed-sleeps : {waiting : List ℕ} {terms : List Term} {n : ℕ} {table : Table} {sets : List ℕ} → length terms ≡ n → due terms table ≡ none → Watched waiting terms n table sets → Awake terms n table sets
+closed-sleeps {terms = terms} {table = table} count closed watched =
+    record { found = λ i j before below is left right. absurd (false≢true (sym (none-due terms table closed i j before (omega arith)) ∙ is)); twins = watched .twins }
 
 -- Where every lookup is pending, both sides of a pair are.
-pub pending-awake : (terms : List Term) (n : ℕ) (table : Table) {sets : List ℕ} → n ≤ 64 → ((k : ℕ) → k < 64 → holds (pendingOf sets) k ≡ true) → Awake terms n table sets
-pending-awake terms n table small all = record { found = λ i j before below is. inl (all i (omega arith)) }
+pub pending-awake : {terms : List Term} {n : ℕ} {table : Table} {sets : List ℕ} → n ≤ 64 → ((k : ℕ) → k < 64 → holds (pendingOf sets) k ≡ true) → ((j : ℕ) → j < n → holds (openOf sets) j ≡ false → (i : ℕ) × Twin terms table i j) → Awake terms n table sets
+pending-awake small all twins = record { found = λ i j before below is left right. inr (inl (all i (omega arith))); twins = twins }
+
+-- At the start every lookup is open too.
+pub all-awake : (terms : List Term) (n : ℕ) (table : Table) {sets : List ℕ} → n ≤ 64 → ((k : ℕ) → k < 64 → holds (pendingOf sets) k ≡ true) → ((k : ℕ) → k < 64 → holds (openOf sets) k ≡ true) → Awake terms n table sets
+all-awake terms n table small pending opened = pending-awake small pending (λ j below out. absurd (false≢true (sym out ∙ opened j (omega arith))))
 
 -- The links are those of the places 64 to 191.
 pub linked-kept : {n : ℕ} {heads inputs sets₀ sets : List ℕ} → n ≤ 64 → InputsBelow n inputs → ((k : ℕ) → 64 ≤ k → k < 192 → getD sets k 0 ≡ getD sets₀ k 0) → Linked n heads inputs sets₀ → Linked n heads inputs sets
@@ -64,29 +69,35 @@ module _ {terms : List Term} {n : ℕ} {heads inputs : List ℕ} {nums₀ dens�
     unfolding sameInputs
     inputs-same = rw (input-same 0 (omega arith), input-same 1 (omega arith), input-same 2 (omega arith))
 
-  -- A step that wakes the users of each row that it changes, and leaves equal rows equal, makes no other pair due.
-  pub stirred-awake : ((t u : ℕ) → t < n → u < n → sameRow (tableAt n nums₀ dens₀) t u ≡ true → sameRow (tableAt n nums dens) t u ≡ true) → Awake terms n (tableAt n nums₀ dens₀) sets₀ → Awake terms n (tableAt n nums dens) sets
-  stirred-awake stay awake = record { found = λ i j before below is. by i j before below is (holds (pendingOf sets) i) refl (holds (pendingOf sets) j) refl }
-    where
-      -- a pair that was due has a side that is pending still
-      remembered : (i j : ℕ) → (holds (pendingOf sets₀) i ≡ true) ⊎ (holds (pendingOf sets₀) j ≡ true) → (holds (pendingOf sets) i ≡ true) ⊎ (holds (pendingOf sets) j ≡ true)
-      remembered i j (inl was) = inl (stirred .remembered i was)
-      remembered i j (inr was) = inr (stirred .remembered j was)
+  module _ (waiting : List ℕ) (stay : (t u : ℕ) → sameRow (tableAt n nums₀ dens₀) t u ≡ true → sameRow (tableAt n nums dens) t u ≡ true) (finds : Finds waiting terms n (tableAt n nums₀ dens₀) sets₀) where
+    -- a pair that was due waits still, or has a side that is pending still
+    remembered : (i j : ℕ) → Looked waiting sets₀ i j → Looked waiting sets i j
+    remembered i j (inl waits) = inl waits
+    remembered i j (inr (inl was)) = inr (inl (stirred .remembered i was))
+    remembered i j (inr (inr was)) = inr (inr (stirred .remembered j was))
 
-      -- the pair was due before unless its own rows were equal, and then they still are
-      own : (i j : ℕ) → i < j → j < n → alike (kindAt terms i) (kindAt terms j) ≡ true → sameInputs (tableAt n nums₀ dens₀) inputs i j ≡ true → sameRow (tableAt n nums dens) i j ≡ false → (b : Bool) → sameRow (tableAt n nums₀ dens₀) i j ≡ b → (holds (pendingOf sets) i ≡ true) ⊎ (holds (pendingOf sets) j ≡ true)
-      own i j before below similar inputs-equal unequal true was = absurd (false≢true (sym unequal ∙ stay i j (omega arith) below was))
-      own i j before below similar inputs-equal unequal false was =
-          remembered i j (awake .found i j before below (due-alike terms n heads inputs lookups (tableAt n nums₀ dens₀) i j (omega arith) below similar ∙ ap₂ (λ a b. a && not b) inputs-equal was))
+    -- the pair was due before unless its own rows were equal, and then they still are
+    own : (i j : ℕ) → i < j → j < n → holds (openOf sets₀) i ≡ true → holds (openOf sets₀) j ≡ true → alike (kindAt terms i) (kindAt terms j) ≡ true → sameInputs (tableAt n nums₀ dens₀) inputs i j ≡ true → sameRow (tableAt n nums dens) i j ≡ false → (b : Bool) → sameRow (tableAt n nums₀ dens₀) i j ≡ b → Looked waiting sets i j
+    own i j before below i-open j-open similar inputs-equal unequal true was = absurd (false≢true (sym unequal ∙ stay i j was))
+    own i j before below i-open j-open similar inputs-equal unequal false was =
+        remembered i j (finds i j before below (due-alike terms n heads inputs lookups (tableAt n nums₀ dens₀) i j (omega arith) below similar ∙ ap₂ (λ a b. a && not b) inputs-equal was) i-open j-open)
 
-      by : (i j : ℕ) → i < j → j < n → isDue terms (tableAt n nums dens) i j ≡ true → (a : Bool) → holds (pendingOf sets) i ≡ a → (b : Bool) → holds (pendingOf sets) j ≡ b → (holds (pendingOf sets) i ≡ true) ⊎ (holds (pendingOf sets) j ≡ true)
-      by i j before below is true left b right = inl left
-      by i j before below is false left true right = inr right
-      by i j before below is false left false right =
-          let table = tableAt n nums dens in
-          let first : i < n = omega arith in
-          let similar = alike-due terms n heads inputs lookups table i j first below is in
-          let one = due-heads terms n heads inputs lookups table i j first below is in
-          let parts = and-eq-true-iff (sameInputs table inputs i j) (not (sameRow table i j)) .0 (sym (due-alike terms n heads inputs lookups table i j first below similar) ∙ is) in
-          let same = inputs-same i j first below (λ none. one .0 (sym (one .1) ∙ none)) (one .0) left right in
-          own i j before below similar (sym same ∙ parts .0) (not-true (sameRow table i j) (parts .1)) (sameRow (tableAt n nums₀ dens₀) i j) refl
+    -- A step that wakes the users of each row that it changes, and leaves equal rows equal, makes no other pair due.
+    pub stirred-finds : Finds waiting terms n (tableAt n nums dens) sets
+    unfolding openOf
+    stirred-finds i j before below is i-open j-open = by (holds (pendingOf sets) i) refl (holds (pendingOf sets) j) refl
+      where
+        same-open : getD sets 193 0 ≡ getD sets₀ 193 0
+        same-open = stirred .links 193 (omega arith) (λ e. omega arith)
+
+        by : (a : Bool) → holds (pendingOf sets) i ≡ a → (b : Bool) → holds (pendingOf sets) j ≡ b → Looked waiting sets i j
+        by true left b right = inr (inl left)
+        by false left true right = inr (inr right)
+        by false left false right =
+            let table = tableAt n nums dens in
+            let first : i < n = omega arith in
+            let similar = alike-due terms n heads inputs lookups table i j first below is in
+            let one = due-heads terms n heads inputs lookups table i j first below is in
+            let parts = and-eq-true-iff (sameInputs table inputs i j) (not (sameRow table i j)) .0 (sym (due-alike terms n heads inputs lookups table i j first below similar) ∙ is) in
+            let same = inputs-same i j first below (λ none. one .0 (sym (one .1) ∙ none)) (one .0) left right in
+            own i j before below (ap (λ s. holds s i) (sym same-open) ∙ i-open) (ap (λ s. holds s j) (sym same-open) ∙ j-open) similar (sym same ∙ parts .0) (not-true (sameRow table i j) (parts .1)) (sameRow (tableAt n nums₀ dens₀) i j) refl

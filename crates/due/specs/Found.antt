@@ -1,21 +1,21 @@
 -- The search for the pair due, on lookups as numbers.
--- Main definitions: `symbolOf`, `Lookups`, `InputsBelow`, `sameInputs`, `leftFor`, `pairOf`, `Below`, `Awake`. Assumes nothing.
+-- Main definitions: `symbolOf`, `Lookups`, `InputsBelow`, `sameInputs`, `leftFor`, `leftAmong`, `pairOf`, `Below`, `Twin`, `Looked`, `Finds`, `Watched`, `Awake`. Assumes nothing.
 use mathlib.Core.Path.{_≡_}
 use mathlib.Core.Logic.{_⊎_}
-use mathlib.Core.Bool.{Bool, true, cond, _&&_}
-use mathlib.Core.List.{List}
+use mathlib.Core.Bool.{Bool, true, false, cond, _&&_}
+use mathlib.Core.List.{List, []}
 use mathlib.Core.Option.{Option, some, none}
 use Prim.Native.Nat.{ℕ, _+_, _*_, _<_}
 use lib.ListN.{length, getD}
 use Rattle.bits.specs.Sets.{holds}
 use Rattle.problem.specs.declared.Kind.{Kind}
 use Rattle.problem.specs.declared.Term.{Term}
-use Rattle.problem.specs.Lookup.{callOf, kindAt}
+use Rattle.problem.specs.Lookup.{callOf, inputsOf, alike, kindAt}
 use Rattle.problem.specs.Problem.{Pair}
 use Rattle.run.specs.Row.{Table, sameRow}
-use Rattle.run.specs.Close.{isDue, first}
+use Rattle.run.specs.Close.{sameRows, isDue, first}
 use Rattle.table.specs.Calls.{Calls}
-use Rattle.table.specs.Sparse.{pendingOf}
+use Rattle.table.specs.Sparse.{pendingOf, openOf}
 use Rattle.due.specs.declared.Due.{Due}
 use Rattle.due.specs.declared.Due.the-variants.{Pair as Found, Closed}
 
@@ -49,6 +49,13 @@ pairFor terms table j i = cond (isDue terms table i j) (some (record { left = i;
 unfoldable pub leftFor : List Term → Table → (j : ℕ) → Option Pair
 leftFor terms table j = first j 0 (pairFor terms table j)
 
+-- the same, of the smallest i that is one of some lookups
+unfoldable pub pairAmong : (lefts : ℕ) → List Term → Table → (j i : ℕ) → Option Pair
+pairAmong lefts terms table j i = cond (holds lefts i) (pairFor terms table j i) none
+
+unfoldable pub leftAmong : (lefts : ℕ) → List Term → Table → (j : ℕ) → Option Pair
+leftAmong lefts terms table j = first j 0 (pairAmong lefts terms table j)
+
 -- what the search found, as the rule has it
 unfoldable pub pairOf : Due → Option Pair
 pairOf (Found left right) = some (record { left = left; right = right })
@@ -59,6 +66,28 @@ unfoldable pub Below : (n : ℕ) → Due → Type 0
 Below n (Found left right) = (left < right) × (right < n)
 Below n Closed = Unit {0}
 
--- Of every pair that is due one side is pending: an input row of it has changed since closing found no pair due.
-pub record Awake (terms : List Term) (n : ℕ) (table : Table) (sets : List ℕ) : Type 0 where
-  pub found : (i j : ℕ) → i < j → j < n → isDue terms table i j ≡ true → (holds (pendingOf sets) i ≡ true) ⊎ (holds (pendingOf sets) j ≡ true)
+-- Lookups that closing has merged: of one function, inputs with equal rows place by place, and equal rows of their own. Any pair due
+-- with the later one has a pair due that comes first, with the earlier one in its place.
+pub record Twin (terms : List Term) (table : Table) (i j : ℕ) : Type 0 where
+  pub before : i < j
+  pub similar : alike (kindAt terms i) (kindAt terms j) ≡ true
+  pub inputs : sameRows table (inputsOf (kindAt terms i)) (inputsOf (kindAt terms j)) ≡ true
+  pub own : sameRow table i j ≡ true
+
+-- A pair that closing looks at, where set j of `waiting` holds lookups to compare lookup j with: it waits, or an input row of one of its
+-- sides has changed since.
+abbrev pub Looked : (waiting sets : List ℕ) (i j : ℕ) → Type 0
+Looked waiting sets i j = (holds (getD waiting j 0) i ≡ true) ⊎ ((holds (pendingOf sets) i ≡ true) ⊎ (holds (pendingOf sets) j ≡ true))
+
+-- Closing looks at every pair of open lookups that is due.
+abbrev pub Finds : (waiting : List ℕ) (terms : List Term) (n : ℕ) (table : Table) (sets : List ℕ) → Type 0
+Finds waiting terms n table sets = (i j : ℕ) → i < j → j < n → isDue terms table i j ≡ true → holds (openOf sets) i ≡ true → holds (openOf sets) j ≡ true → Looked waiting sets i j
+
+-- A lookup that is not open has a twin before it.
+pub record Watched (waiting : List ℕ) (terms : List Term) (n : ℕ) (table : Table) (sets : List ℕ) : Type 0 where
+  pub found : Finds waiting terms n table sets
+  pub twins : (j : ℕ) → j < n → holds (openOf sets) j ≡ false → (i : ℕ) × Twin terms table i j
+
+-- Between closings no pair waits.
+abbrev pub Awake : (terms : List Term) (n : ℕ) (table : Table) (sets : List ℕ) → Type 0
+Awake terms n table sets = Watched [] terms n table sets

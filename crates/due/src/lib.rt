@@ -1,10 +1,9 @@
-// The next pair of lookups that closing merges. A pair is looked at only where its lookups are of one function and one of them is
-// pending: an input row of it has changed since closing last found no pair due.
+// The next pair of lookups that closing merges. A pair is looked at only where it waits: an input row of it has changed since it
+// was looked at last, and neither lookup was merged with a congruent one before it.
 use same::same_row;
-use table::EARLIER;
-use table::PENDING;
+use table::OPEN;
 ghost use mathlib.Core.Path.{_≡_};
-ghost use mathlib.Core.Bool.{_&&_, _||_};
+ghost use mathlib.Core.Bool.{_&&_};
 ghost use mathlib.Core.List.{List};
 ghost use Prim.Native.Nat.{ℕ, _+_, _*_, _<_, _≤_};
 ghost use lib.ListN.{length, getD};
@@ -16,8 +15,8 @@ ghost use Rattle.run.specs.Row.{sameRow};
 ghost use Rattle.run.specs.Close.{isDue, due};
 ghost use Rattle.table.specs.Calls.{headOf};
 ghost use Rattle.table.specs.Held.{tableAt, SoundTo};
-ghost use Rattle.table.specs.Sparse.{earlierOf, pendingOf, Linked, Sparse};
-ghost use Rattle.due.specs.Found.{symbolOf, Lookups, InputsBelow, sameInput, sameInputs, leftFor, pairOf, Below, Awake};
+ghost use Rattle.table.specs.Sparse.{pendingOf, openOf, Sparse};
+ghost use Rattle.due.specs.Found.{symbolOf, Lookups, InputsBelow, sameInput, sameInputs, leftAmong, pairOf, Below, Watched};
 
 // The pair due, of the smallest right and then the smallest left; or none is.
 pub enum Due {
@@ -40,7 +39,7 @@ fn same_function(heads: &[u16], i: usize, j: usize) -> bool
 // Whether two terms have equal rows, looked for in the columns of both.
 fn same_terms(nums: &[i32], dens: &[i32], n: usize, sets: &[u64], t: usize, u: usize) -> bool
     requires { ⌜ (t < n) × (u < n) × (n ≤ 64) ⌝ }
-    requires { ⌜ (4160 ≤ length (now nums)) × (4160 ≤ length (now dens)) × (193 ≤ length (now sets)) ⌝ }
+    requires { ⌜ (4160 ≤ length (now nums)) × (4160 ≤ length (now dens)) × (194 ≤ length (now sets)) ⌝ }
     requires { ⌜ SoundTo (65 * n) (now nums) (now dens) ⌝ }
     requires { ⌜ Sparse n (now nums) (now sets) ⌝ }
     ensures { λ r. ⌜ r ≡ sameRow (tableAt n (now (nums .entry)) (now (dens .entry))) t u ⌝ }
@@ -61,7 +60,7 @@ fn same_input(
     k: usize,
 ) -> bool
     requires { ⌜ (i < n) × (j < n) × (k < 3) × (n ≤ 64) ⌝ }
-    requires { ⌜ (4160 ≤ length (now nums)) × (4160 ≤ length (now dens)) × (192 ≤ length (now inputs)) × (193 ≤ length (now sets)) ⌝ }
+    requires { ⌜ (4160 ≤ length (now nums)) × (4160 ≤ length (now dens)) × (192 ≤ length (now inputs)) × (194 ≤ length (now sets)) ⌝ }
     requires { ⌜ SoundTo (65 * n) (now nums) (now dens) ⌝ }
     requires { ⌜ InputsBelow n (now inputs) ⌝ }
     requires { ⌜ Sparse n (now nums) (now sets) ⌝ }
@@ -82,7 +81,7 @@ fn same_inputs(
     j: usize,
 ) -> bool
     requires { ⌜ (i < n) × (j < n) × (n ≤ 64) ⌝ }
-    requires { ⌜ (4160 ≤ length (now nums)) × (4160 ≤ length (now dens)) × (192 ≤ length (now inputs)) × (193 ≤ length (now sets)) ⌝ }
+    requires { ⌜ (4160 ≤ length (now nums)) × (4160 ≤ length (now dens)) × (192 ≤ length (now inputs)) × (194 ≤ length (now sets)) ⌝ }
     requires { ⌜ SoundTo (65 * n) (now nums) (now dens) ⌝ }
     requires { ⌜ InputsBelow n (now inputs) ⌝ }
     requires { ⌜ Sparse n (now nums) (now sets) ⌝ }
@@ -97,8 +96,7 @@ fn same_inputs(
     same_input(nums, dens, n, inputs, sets, i, j, 2)
 }
 
-// 01, Close: lookups with the same kind and symbol, inputs with equal rows place by place, and unequal rows of their own. Those are
-// looked at before the inputs: most pairs that are not due differ nowhere else, since they were merged.
+// 01, Close: lookups with the same kind and symbol, inputs with equal rows place by place, and unequal rows of their own.
 fn is_due(
     nums: &[i32],
     dens: &[i32],
@@ -111,7 +109,7 @@ fn is_due(
 ) -> bool
     requires { ⌜ (i < j) × (j < n) × (n ≤ 64) ⌝ }
     requires { ⌜ (4160 ≤ length (now nums)) × (4160 ≤ length (now dens)) ⌝ }
-    requires { ⌜ (64 ≤ length (now heads)) × (192 ≤ length (now inputs)) × (193 ≤ length (now sets)) ⌝ }
+    requires { ⌜ (64 ≤ length (now heads)) × (192 ≤ length (now inputs)) × (194 ≤ length (now sets)) ⌝ }
     requires { ⌜ SoundTo (65 * n) (now nums) (now dens) ⌝ }
     requires { ⌜ InputsBelow n (now inputs) ⌝ }
     requires { ⌜ Sparse n (now nums) (now sets) ⌝ }
@@ -120,26 +118,25 @@ fn is_due(
     if !same_function(heads, i, j) {
         return false;
     }
-    if same_terms(nums, dens, n, sets, i, j) {
+    if !same_inputs(nums, dens, n, inputs, sets, i, j) {
         return false;
     }
-    same_inputs(nums, dens, n, inputs, sets, i, j)
+    !same_terms(nums, dens, n, sets, i, j)
 }
 
-// The lookups before j that j is compared with: those of its function, all of them if j is pending, else those that are.
-fn candidates(sets: &[u64], j: usize) -> u64
-    requires { ⌜ (j < 64) × (193 ≤ length (now sets)) ⌝ }
-    ensures { λ r. ⌜ ((i : ℕ) → holds r i ≡ (holds (earlierOf (now (sets .entry)) j) i && (holds (pendingOf (now (sets .entry))) i || holds (pendingOf (now (sets .entry))) j))) ⌝ }
+// The lookups of a set that are open, if j is: those that j is compared with.
+fn lefts_open(sets: &[u64], set: u64, j: usize) -> u64
+    requires { ⌜ (j < 64) × (194 ≤ length (now sets)) ⌝ }
+    ensures { λ r. ⌜ ((i : ℕ) → holds r i ≡ (holds (openOf (now (sets .entry))) j && (holds set i && holds (openOf (now (sets .entry))) i))) ⌝ }
 {
-    let earlier = sets[EARLIER + j];
-    let pending = sets[PENDING];
-    if bits::has(pending, j) {
-        return earlier;
+    let open = sets[OPEN];
+    if bits::has(open, j) {
+        return bits::common(set, open);
     }
-    bits::common(earlier, pending)
+    0
 }
 
-// The pair due of right side j with the smallest left side.
+// The pair due of right side j with the smallest left side that is one of `lefts`.
 fn left_due(
     nums: &[i32],
     dens: &[i32],
@@ -147,19 +144,18 @@ fn left_due(
     heads: &[u16],
     inputs: &[u8],
     sets: &[u64],
+    lefts: u64,
     j: usize,
 ) -> Due
     requires { ⌜ (j < n) × (n ≤ 64) ⌝ }
     requires { ⌜ (4160 ≤ length (now nums)) × (4160 ≤ length (now dens)) ⌝ }
-    requires { ⌜ (64 ≤ length (now heads)) × (192 ≤ length (now inputs)) × (193 ≤ length (now sets)) ⌝ }
+    requires { ⌜ (64 ≤ length (now heads)) × (192 ≤ length (now inputs)) × (194 ≤ length (now sets)) ⌝ }
     requires { ⌜ SoundTo (65 * n) (now nums) (now dens) ⌝ }
     requires { ⌜ InputsBelow n (now inputs) ⌝ }
-    requires { ⌜ Linked n (now heads) (now inputs) (now sets) ⌝ }
     requires { ⌜ Sparse n (now nums) (now sets) ⌝ }
-    ensures { λ r. ⌜ ((terms : List Term) → Lookups terms n (now (heads .entry)) (now (inputs .entry)) → Awake terms n (tableAt n (now (nums .entry)) (now (dens .entry))) (now (sets .entry)) → leftFor terms (tableAt n (now (nums .entry)) (now (dens .entry))) j ≡ pairOf r) ⌝ }
+    ensures { λ r. ⌜ ((terms : List Term) → Lookups terms n (now (heads .entry)) (now (inputs .entry)) → leftAmong lefts terms (tableAt n (now (nums .entry)) (now (dens .entry))) j ≡ pairOf r) ⌝ }
     ensures { λ r. ⌜ Below n r ⌝ }
 {
-    let lefts = candidates(sets, j);
     let mut i = bits::next(lefts, 0);
     while i < j {
         if is_due(nums, dens, n, heads, inputs, sets, i, j) {
@@ -170,7 +166,7 @@ fn left_due(
     Due::Closed
 }
 
-// The pair due, where one side of every pair due is pending.
+// The pair due, where every pair due of open lookups waits. A right side with no pair due has none that waits afterwards.
 pub fn find_due(
     nums: &[i32],
     dens: &[i32],
@@ -178,25 +174,27 @@ pub fn find_due(
     heads: &[u16],
     inputs: &[u8],
     sets: &[u64],
+    waiting: &mut [u64],
 ) -> Due
-    requires { ⌜ n ≤ 64 ⌝ }
+    requires { ⌜ (n ≤ 64) × (64 ≤ length (now waiting)) ⌝ }
     requires { ⌜ (4160 ≤ length (now nums)) × (4160 ≤ length (now dens)) ⌝ }
-    requires { ⌜ (64 ≤ length (now heads)) × (192 ≤ length (now inputs)) × (193 ≤ length (now sets)) ⌝ }
+    requires { ⌜ (64 ≤ length (now heads)) × (192 ≤ length (now inputs)) × (194 ≤ length (now sets)) ⌝ }
     requires { ⌜ SoundTo (65 * n) (now nums) (now dens) ⌝ }
     requires { ⌜ InputsBelow n (now inputs) ⌝ }
-    requires { ⌜ Linked n (now heads) (now inputs) (now sets) ⌝ }
     requires { ⌜ Sparse n (now nums) (now sets) ⌝ }
-    ensures { λ r. ⌜ ((terms : List Term) → Lookups terms n (now (heads .entry)) (now (inputs .entry)) → Awake terms n (tableAt n (now (nums .entry)) (now (dens .entry))) (now (sets .entry)) → due terms (tableAt n (now (nums .entry)) (now (dens .entry))) ≡ pairOf r) ⌝ }
+    requires { ⌜ pendingOf (now sets) ≡ 0 ⌝ }
+    ensures { λ r. ⌜ ((terms : List Term) → Lookups terms n (now (heads .entry)) (now (inputs .entry)) → Watched (now (waiting .entry)) terms n (tableAt n (now (nums .entry)) (now (dens .entry))) (now (sets .entry)) → (due terms (tableAt n (now (nums .entry)) (now (dens .entry))) ≡ pairOf r) × Watched (now (waiting .exit)) terms n (tableAt n (now (nums .entry)) (now (dens .entry))) (now (sets .entry))) ⌝ }
     ensures { λ r. ⌜ Below n r ⌝ }
 {
-    if sets[PENDING] == 0 {
-        return Due::Closed;
-    }
     let mut j: usize = 0;
     while j < n {
-        match left_due(nums, dens, n, heads, inputs, sets, j) {
+        let lefts = lefts_open(sets, waiting[j], j);
+        match left_due(nums, dens, n, heads, inputs, sets, lefts, j) {
             Due::Pair { left, right } => return Due::Pair { left, right },
-            Due::Closed => j += 1,
+            Due::Closed => {
+                waiting[j] = 0;
+                j += 1;
+            }
         }
     }
     Due::Closed

@@ -36,7 +36,7 @@ use Rattle.fold.proofs.Cells.{folded-column, cell-solved}
 use Rattle.fold.proofs.Columns.{column-stands}
 
 -- The two stores of a noting.
-pub sets-noted : (t p set : ℕ) (sets : List ℕ) (both columns pending : ℕ) → t < 64 → length sets ≡ 193 → ((c : ℕ) → holds both c ≡ (holds (getD sets t 0) c || holds set c)) → ((c : ℕ) → holds columns c ≡ (not (eqb c p) && holds both c)) → ((j : ℕ) → holds pending j ≡ (holds (getD sets 192 0) j || holds (getD sets (64 + t) 0) j)) → Noted t p set sets (stored (stored sets t columns) 192 pending)
+pub sets-noted : (t p set : ℕ) (sets : List ℕ) (both columns pending : ℕ) → t < 64 → length sets ≡ 194 → ((c : ℕ) → holds both c ≡ (holds (getD sets t 0) c || holds set c)) → ((c : ℕ) → holds columns c ≡ (not (eqb c p) && holds both c)) → ((j : ℕ) → holds pending j ≡ (holds (getD sets 192 0) j || holds (getD sets (64 + t) 0) j)) → Noted t p set sets (stored (stored sets t columns) 192 pending)
 unfolding columnsOf usersOf pendingOf
 sets-noted t p set sets both columns pending small size union without woken =
     let place : 192 < length (stored sets t columns) = omega (arith, length-set sets t columns) in
@@ -101,7 +101,7 @@ module _ {n t p set : ℕ} {nums₀ dens₀ nums dens : List ℤ} {sets₀ sets 
   turn-stirred kept (inr noted) =
       record {
         same-length = noted .same-length;
-        links = λ k low high. noted .others k (λ e. omega arith) (λ e. omega arith);
+        links = λ k low rest. noted .others k (λ e. omega arith) rest;
         remembered = λ j h. noted .pending j ∙ ap (λ b. b || holds (usersOf sets₀ t) j) h;
         woken = λ s inside. by s (ℕ-discrete s t);
       }

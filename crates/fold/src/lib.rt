@@ -88,7 +88,7 @@ fn fold_columns(
 // The form of p, with the columns of its set, comes into row t: the row may have them from then on, and p no more; and the lookups
 // that t is an input of have to be looked at again.
 fn note(sets: &mut [u64], t: usize, p: usize, set: u64)
-    requires { ⌜ (t < 64) × (p < 64) × (length (now sets) ≡ 193) ⌝ }
+    requires { ⌜ (t < 64) × (p < 64) × (length (now sets) ≡ 194) ⌝ }
     ensures { λ r. ⌜ Noted t p set (now (sets .entry)) (now (sets .exit)) ⌝ }
 {
     let columns = bits::without(bits::union(sets[t], set), p);
@@ -115,7 +115,7 @@ fn fold_row(
     requires { ⌜ SoundTo 65 (now «form_nums») (now «form_dens») ⌝ }
     requires { ⌜ Within set 0 (now «form_nums») ⌝ }
     requires { ⌜ holds set p ≡ true ⌝ }
-    requires { ⌜ length (now sets) ≡ 193 ⌝ }
+    requires { ⌜ length (now sets) ≡ 194 ⌝ }
     ensures { λ r. ⌜ RowMade (foldedColumn p (rowAt (now («form_nums» .entry)) (now («form_dens» .entry)) 0) (rowAt (now (nums .entry)) (now (dens .entry)) (65 * t))) (65 * t) (65 * t + 65) r (now (nums .entry)) (now (dens .entry)) (now (nums .exit)) (now (dens .exit)) ⌝ }
     ensures { λ r. ⌜ Turn t p set (now (nums .entry)) (now (dens .entry)) (now (nums .exit)) (now (dens .exit)) (now (sets .entry)) (now (sets .exit)) ⌝ }
 {
@@ -146,7 +146,7 @@ pub fn fold_rows(
     requires { ⌜ SoundTo 65 (now «form_nums») (now «form_dens») ⌝ }
     requires { ⌜ Within set 0 (now «form_nums») ⌝ }
     requires { ⌜ holds set p ≡ true ⌝ }
-    requires { ⌜ length (now sets) ≡ 193 ⌝ }
+    requires { ⌜ length (now sets) ≡ 194 ⌝ }
     requires { ⌜ Sparse n (now nums) (now sets) ⌝ }
     ensures { λ r. ⌜ folded p (rowAt (now («form_nums» .entry)) (now («form_dens» .entry)) 0) (tableAt n (now (nums .entry)) (now (dens .entry))) ≡ finished r (tableAt n (now (nums .exit)) (now (dens .exit))) ⌝ }
     ensures { λ r. ⌜ Kept 0 (65 * n) (now (nums .entry)) (now (dens .entry)) (now (nums .exit)) (now (dens .exit)) ⌝ }

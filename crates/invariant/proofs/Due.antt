@@ -1,5 +1,5 @@
 -- The pair that closing merges next, and that a table with none is closed.
--- Main results: `Due`, `due-some`, `none-due`, `due-none`. Assume nothing.
+-- Main results: `first-none`, `Due`, `due-some`, `none-due`, `due-none`. Assume nothing.
 use mathlib.Core.Path.{_≡_, refl, sym, ap, _∙_, subst}
 use mathlib.Core.Bool.{Bool, true, false, not, _&&_, cond, and-eq-true-iff, true≢false}
 use mathlib.Core.List.{List}
@@ -19,7 +19,7 @@ use Rattle.invariant.specs.Rows.{EqualRows, EqualPlaces, Closed}
 use Rattle.invariant.proofs.Rows.{sameRow-equal, sameRows-equal}
 
 -- Where nothing is found, there is nothing at any of the numbers.
-first-none : {A : Type 0} (count from : ℕ) (g : ℕ → Option A) → first count from g ≡ none → (k : ℕ) → from ≤ k → k < from + count → g k ≡ none
+pub first-none : {A : Type 0} (count from : ℕ) (g : ℕ → Option A) → first count from g ≡ none → (k : ℕ) → from ≤ k → k < from + count → g k ≡ none
 unfolding first
 first-none zero from g h k low high = absurd (omega arith)
 first-none {A} (suc count) from g h k low high = by (g from) refl h (first-none count (suc from) g) (ℕ-discrete k from)
@@ -47,7 +47,7 @@ pub record Due (terms : List Term) (table : Table) (i j : ℕ) : Type 0 where
   pub inputs : EqualPlaces table (inputsOf (kindAt terms i)) (inputsOf (kindAt terms j))
   pub unequal : EqualRows table i j → ⊥
 
-T-true : (b : Bool) → T b → b ≡ true
+pub T-true : (b : Bool) → T b → b ≡ true
 T-true true h = refl
 T-true false h = absurd h
 

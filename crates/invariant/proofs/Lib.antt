@@ -5,6 +5,7 @@ pub mod Due
 pub mod Granted
 pub mod Keeps
 pub mod Lin
+pub mod Meets
 pub mod Merge
 pub mod Pivot
 pub mod Range

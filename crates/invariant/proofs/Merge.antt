@@ -19,10 +19,11 @@ use Rattle.run.specs.Row.{Row, TERMS, COLUMNS, constant, column, rowOf, cell}
 use Rattle.run.specs.Merge.{State, contradiction, outside, pivot, solve, settle, merge}
 use Rattle.invariant.specs.Rows.{EqualRows}
 use Rattle.invariant.specs.Invariant.{OneToOne, Meets, Equates, NoneMeets, Invariant, Stopped}
-use Rattle.invariant.proofs.Pivot.{last-or-before, pivot-some, pivot-none}
+use Rattle.invariant.proofs.Meets.{Differs, rows-differ, solve-meets, constant-only}
+use Rattle.invariant.proofs.Pivot.{pivot-some, pivot-none}
 use Rattle.invariant.proofs.Range.{difference-ranged, solve-ranged}
-use Rattle.invariant.proofs.Solve.{Differs, difference-value, solve-equal, solve-meets, solve-invariant}
-use Rattle.invariant.proofs.Steps.{difference-made, solve-made}
+use Rattle.invariant.proofs.Solve.{difference-value, solve-equal, solve-invariant}
+use Rattle.invariant.proofs.Steps.{solve-made}
 
 -- The invariant holds with more assumptions in force, and for any met that have equal rows.
 pub restated : {rank : ℕ → ℕ} {terms : List Term} {inForce more met others : List Pair} {state : State} → ((v : ℕ → ℚ) → Meets v more → Meets v inForce) → ((pair : Pair) → List·Memᴰ pair others → EqualRows (state .table) (pair .left) (pair .right)) → Invariant rank terms inForce met state → Invariant rank terms more others state
@@ -47,12 +48,6 @@ pub record Merged (rank : ℕ → ℕ) (terms : List Term) (inForce met : List P
 module _ (rank : ℕ → ℕ) (terms : List Term) (inForce met : List Pair) (state : State) (t u : ℕ)
     (one-to-one : OneToOne rank) (fits : length terms ≤ TERMS) (t-below : t < length terms) (u-below : u < length terms)
     (equates : Equates terms inForce t u) (inv : Invariant rank terms inForce met state) where
-  -- nothing to solve: the rows differ in the constant at most
-  constant-only : (d : Row) → Differs (state .table) t u d → pivot rank TERMS d ≡ none → column d constant ≡ zeroℚ → EqualRows (state .table) t u
-  unfolding COLUMNS constant
-  constant-only d differs empty zero c inside =
-      difference-zero _ _ (sym (differs .each c inside) ∙ last-or-before TERMS zero (pivot-none rank d TERMS empty) c inside)
-
   settle-answers : (d : Row) → Differs (state .table) t u d → (o : Option ℕ) → pivot rank TERMS d ≡ o → Answers (Merged rank terms inForce met t u state) (Stopped terms inForce) (settle d state o)
   unfolding settle Stopped NoneMeets Equates constant
   settle-answers d differs (some p) found = answers-because outside (answers-with (solve-ranged p d state) solved) (λ number range. range)
@@ -63,7 +58,7 @@ module _ (rank : ℕ → ℕ) (terms : List Term) (inForce met : List Pair) (sta
           let solves = solve-made p d state after h in
           record {
             invariant = solve-invariant rank terms inForce met state after t u p d one-to-one inv differs chosen solves fits t-below u-below equates;
-            meets = solve-meets rank terms inForce met state after t u p d one-to-one inv differs chosen solves;
+            meets = solve-meets differs chosen solves;
             keeps = solve-equal rank terms inForce met state after t u p d one-to-one inv differs chosen solves;
             grows = inr (solves .counts);
           }
@@ -72,7 +67,7 @@ module _ (rank : ℕ → ℕ) (terms : List Term) (inForce met : List Pair) (sta
       by : (b : Bool) → eqℚ (column d constant) zeroℚ ≡ b → Answers (Merged rank terms inForce met t u state) (Stopped terms inForce) (cond b (made state) (stopped contradiction))
       by true zero = if-made (record {
         invariant = inv;
-        meets = constant-only d differs empty (eqℚ-yes _ _ zero);
+        meets = constant-only rank d differs empty (eqℚ-yes _ _ zero);
         keeps = λ i j before. before;
         grows = inl refl;
       })
@@ -88,7 +83,7 @@ module _ (rank : ℕ → ℕ) (terms : List Term) (inForce met : List Pair) (sta
   unfolding merge cell Stopped
   merge-answers =
       answers-bind
-      (answers-because outside (answers-with (difference-ranged _ _) (λ d h. record { each = difference-made (rowOf (state .table) t) (rowOf (state .table) u) d h })) (λ number range. range))
+      (answers-because outside (answers-with (difference-ranged _ _) (λ d h. rows-differ h)) (λ number range. range))
       (λ d differs. settle-answers d differs (pivot rank TERMS d) refl)
 
   pub merge-made : (after : State) → merge rank t u state ≡ made after → Merged rank terms inForce met t u state after

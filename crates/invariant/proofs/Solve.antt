@@ -29,15 +29,12 @@ use Rattle.invariant.specs.Invariant.{OneToOne, Equates, Unsolved, Lower
 use Rattle.invariant.proofs.Count.{count-one-more}
 use Rattle.invariant.proofs.Keeps.{folds-equal}
 use Rattle.invariant.proofs.Lin.{lin-congruent, lin-commutes, fold-linear}
+use Rattle.invariant.proofs.Meets.{Differs, solve-meets}
 use Rattle.invariant.proofs.Pivot.{Pivot, pivot-highest}
 use Rattle.invariant.proofs.Solved.{unsolved-not-counted, lower-counted, known-not-counted}
 use Rattle.invariant.proofs.SolvedForm.{solved-there, solved-nonzero, solved-cancels, solved-value}
 use Rattle.invariant.proofs.Steps.{Solves}
 use Rattle.invariant.proofs.Units.{column-below, constant-apart}
-
--- The row d is the difference of rows t and u.
-pub record Differs (table : Table) (t u : ℕ) (d : Row) : Type 0 where
-  pub each : (c : ℕ) → c < COLUMNS → column d c ≡ cell table t c -ℚ cell table u c
 
 -- The difference of two rows with equal values has the value 0.
 pub difference-value : (table : Table) (t u : ℕ) (d : Row) (v : ℕ → ℚ) → Differs table t u d → eval TERMS (cell table t) v ≡ eval TERMS (cell table u) v → eval TERMS (column d) v ≡ zeroℚ
@@ -72,13 +69,6 @@ module _ (rank : ℕ → ℕ) (terms : List Term) (inForce met : List Pair) (sta
   -- F3: rows that are equal stay equal.
   pub solve-equal : (i j : ℕ) → EqualRows (state .table) i j → EqualRows (after .table) i j
   solve-equal = folds-equal p form (state .table) (after .table) p-column (solves .folds)
-
-  -- F4: the two rows become equal.
-  pub solve-meets : EqualRows (after .table) t u
-  solve-meets c inside =
-      let cancels : foldForm p form (λ k. cell (state .table) t k -ℚ cell (state .table) u k) c ≡ zeroℚ =
-      fold-equal p c form form _ (column d) refl (sym (differs .each p p-column)) (sym (differs .each c inside)) ∙ solved-cancels p (column d) (pivot .nonzero) c in
-      difference-zero _ _ (ap₂ _-ℚ_ (solves .folds t c inside) (solves .folds u c inside) ∙ sym (fold-minus p form _ _ c) ∙ cancels)
 
   -- A column of the difference that is not 0 is that of an unsolved unknown.
   difference-unsolved : (c : ℕ) → c < TERMS → column d c ≢ zeroℚ → Unsolved terms (state .table) c

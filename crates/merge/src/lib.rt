@@ -42,7 +42,7 @@ fn solve(
     requires { ⌜ (65 ≤ length (now «d_nums»)) × (65 ≤ length (now «d_dens»)) ⌝ }
     requires { ⌜ SoundTo (65 * n) (now nums) (now dens) ⌝ }
     requires { ⌜ SoundTo 65 (now «d_nums») (now «d_dens») ⌝ }
-    requires { ⌜ (length (now sets) ≡ 193) × Sparse n (now nums) (now sets) ⌝ }
+    requires { ⌜ (length (now sets) ≡ 194) × Sparse n (now nums) (now sets) ⌝ }
     requires { ⌜ (holds set p ≡ true) × Within set 0 (now «d_nums») ⌝ }
     ensures { λ r. ⌜ ((solved : ℕ) → because outside (rule.solve p (rowAt (now («d_nums» .entry)) (now («d_dens» .entry)) 0) (record { table = tableAt n (now (nums .entry)) (now (dens .entry)); solved = solved })) ≡ merged r solved (tableAt n (now (nums .exit)) (now (dens .exit)))) ⌝ }
     ensures { λ r. ⌜ Kept 0 (65 * n) (now (nums .entry)) (now (dens .entry)) (now (nums .exit)) (now (dens .exit)) ⌝ }
@@ -72,7 +72,7 @@ fn settle(
     requires { ⌜ (65 ≤ length (now «d_nums»)) × (65 ≤ length (now «d_dens»)) ⌝ }
     requires { ⌜ SoundTo (65 * n) (now nums) (now dens) ⌝ }
     requires { ⌜ SoundTo 65 (now «d_nums») (now «d_dens») ⌝ }
-    requires { ⌜ (length (now sets) ≡ 193) × Sparse n (now nums) (now sets) ⌝ }
+    requires { ⌜ (length (now sets) ≡ 194) × Sparse n (now nums) (now sets) ⌝ }
     requires { ⌜ Within set 0 (now «d_nums») ⌝ }
     ensures { λ r. ⌜ ((solved : ℕ) → rule.settle (rowAt (now («d_nums» .entry)) (now («d_dens» .entry)) 0) (record { table = tableAt n (now (nums .entry)) (now (dens .entry)); solved = solved }) (pivot byNumber TERMS (rowAt (now («d_nums» .entry)) (now («d_dens» .entry)) 0)) ≡ merged r solved (tableAt n (now (nums .exit)) (now (dens .exit)))) ⌝ }
     ensures { λ r. ⌜ Kept 0 (65 * n) (now (nums .entry)) (now (dens .entry)) (now (nums .exit)) (now (dens .exit)) ⌝ }
@@ -102,7 +102,7 @@ pub fn merge(
 ) -> Merged
     requires { ⌜ (n ≤ 64) × (t < n) × (u < n) × (4160 ≤ length (now nums)) × (4160 ≤ length (now dens)) ⌝ }
     requires { ⌜ SoundTo (65 * n) (now nums) (now dens) ⌝ }
-    requires { ⌜ (length (now sets) ≡ 193) × Sparse n (now nums) (now sets) ⌝ }
+    requires { ⌜ (length (now sets) ≡ 194) × Sparse n (now nums) (now sets) ⌝ }
     ensures { λ r. ⌜ ((solved : ℕ) → rule.merge byNumber t u (record { table = tableAt n (now (nums .entry)) (now (dens .entry)); solved = solved }) ≡ merged r solved (tableAt n (now (nums .exit)) (now (dens .exit)))) ⌝ }
     ensures { λ r. ⌜ Kept 0 (65 * n) (now (nums .entry)) (now (dens .entry)) (now (nums .exit)) (now (dens .exit)) ⌝ }
     ensures { λ r. ⌜ SoundTo (65 * n) (now (nums .exit)) (now (dens .exit)) ⌝ }

@@ -38,4 +38,4 @@ stirred-then {n} {nums₀} {dens₀} {nums} {dens} {nums′} {dens′} {sets₀}
         → (rowAt nums′ dens′ (65 * t) ≡ rowAt nums₀ dens₀ (65 * t)) ⊎ ((j : ℕ) → holds (usersOf sets₀ t) j ≡ true → holds (pendingOf sets′) j ≡ true)
     by t below (inr woken) _ = inr (λ j h. second .remembered j (woken j h))
     by t below (inl same) (inl again) = inl (again ∙ same)
-    by t below (inl same) (inr woken) = inr (λ j h. woken j (ap (λ s. holds s j) (first .links (64 + t) (omega arith) (omega arith)) ∙ h))
+    by t below (inl same) (inr woken) = inr (λ j h. woken j (ap (λ s. holds s j) (first .links (64 + t) (omega arith) (λ e. omega arith)) ∙ h))

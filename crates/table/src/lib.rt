@@ -7,12 +7,14 @@ ghost use lib.ListN.{length, set};
 ghost use Rattle.table.specs.Held.{heldAt};
 
 // The sets of a run stand in one list: the columns of row t at t, then the lookups that use t, then the lookups before t of the
-// same function, and last those that closing has to look at again.
+// same function; then those that closing has to look at again, and last those that it has not merged with one before them.
 pub const USERS: usize = TERMS;
 
 pub const EARLIER: usize = 2 * TERMS;
 
 pub const PENDING: usize = 3 * TERMS;
+
+pub const OPEN: usize = 3 * TERMS + 1;
 
 // A step that writes into the lists is done, or refused with a number.
 pub enum Step {

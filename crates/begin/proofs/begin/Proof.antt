@@ -11,7 +11,7 @@ use Rattle.table.specs.Held.{tableAt}
 use Rattle.table.proofs.Columns.{kept-then}
 use Rattle.table.proofs.Turns.{finished-done, finished-refused}
 use Rattle.due.specs.Found.{Lookups, InputsBelow, Awake}
-use Rattle.due.proofs.Woken.{pending-awake}
+use Rattle.due.proofs.Woken.{all-awake}
 use Rattle.close.specs.Ready.{Ready}
 use Rattle.steps.specs.Ran.{ran, AtMost, WhileGoing, Prepared}
 use Rattle.steps.proofs.Going.{counted-more, when-going, going-holds, open-going}
@@ -59,12 +59,14 @@ below t =
     let held = s .pre .0 in
     decoded-inputs (s .args .bytes .now) (held .problem) (held .same) (s .pre .1 .0) (noted t (held .problem) (held .same) .calls)
 
--- every lookup is pending
+-- every lookup is pending and open
 awake : (t : tie.After-enum-told) → let b = build t in (p : Problem) → decoded (start b .args .bytes .now) ≡ made p → Awake (p .terms) (start b .args .n) (tableAt (start b .args .n) (b .build .last .1 .1 .0) (b .build .last .1 .1 .1 .0)) (b .build .last .1 .1 .1 .1 .1 .1 .0)
 awake t p e =
     let b = build t in
     let s = start b in
-    pending-awake (p .terms) (s .args .n) (tableAt (s .args .n) (b .build .last .1 .1 .0) (b .build .last .1 .1 .1 .0)) (few s) (b .build .ensures p e .pending (t .enum-told .given .1))
+    let built = b .build .ensures p e in
+    let done = t .enum-told .given .1 in
+    all-awake (p .terms) (s .args .n) (tableAt (s .args .n) (b .build .last .1 .1 .0) (b .build .last .1 .1 .1 .0)) (few s) (built .pending done) (built .opened done)
 
 close-requires : tie.Need-close-requires
 close-requires c κs =

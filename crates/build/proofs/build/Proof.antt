@@ -13,13 +13,13 @@ use Rattle.problem.specs.Bits.{field}
 use Rattle.problem.specs.Problem.{Problem, decoded}
 use Rattle.problem.specs.Lookup.{kindAt}
 use Rattle.table.specs.Calls.{Calls, NotesKept}
-use Rattle.table.specs.Sparse.{Sparse, Linked, pendingOf}
+use Rattle.table.specs.Sparse.{Sparse, Linked, pendingOf, openOf}
 use Rattle.table.specs.declared.Step.the-variants.{Done}
 use Rattle.build_rows.specs.Buildable.{Written, Buildable}
 use Rattle.build_rows.specs.Built.{RowBuilt}
 use native.Mathlib.Omega.{arith}
 use Prim.Native.Nat.{ℕ, _+_, _-_, _≤_, _<_, _*_}
-use lib.ListN.{length, set}
+use lib.ListN.{length, getD, set, length-set}
 use lib.Seq.{getD-set-same, getD-set-other}
 use mathlib.Core.Path.{_≡_, refl, sym, ap, _∙_, subst}
 use borrow.Author.Needs.{needs}
@@ -208,6 +208,9 @@ ALL = 18446744073709551615
 slice-write-sets : tie.Need-slice-write-sets Inv-loop μ-loop
 slice-write-sets c = search needs
 
+slice-write-sets-2 : tie.Need-slice-write-sets-2 Inv-loop μ-loop
+slice-write-sets-2 c = search needs
+
 same-length-6 : tie.Need-same-length-6 Inv-loop μ-loop
 same-length-6 c = search needs
 
@@ -224,21 +227,24 @@ same-length-10 : tie.Need-same-length-10 Inv-loop μ-loop
 same-length-10 c = search needs
 
 returns-2 : tie.Need-returns-2 Inv-loop μ-loop
-unfolding pendingOf
+unfolding pendingOf openOf
 returns-2 c p e =
     let l = c .before in
     let s = start l in
     let all : l .loop .t ≡ s .args .n = omega arith in
     let sets = l .loop .sets in
-    let sized : length sets ≡ 193 = l .loop .inv .5 ∙ s .pre .1 .1 .1 .1 in
+    let sized : length sets ≡ 194 = l .loop .inv .5 ∙ s .pre .1 .1 .1 .1 in
+    let after = set sets 192 ALL in
+    let other : (k : ℕ) → k < 192 → getD (set after 193 ALL) k 0 ≡ getD sets k 0 = λ k below. getD-set-other after 193 k ALL 0 (λ at. omega arith) ∙ getD-set-other sets 192 k ALL 0 (λ at. omega arith) in
     let few : l .loop .t ≤ 64 = omega (arith, holding (s .args .bytes .now) (s .pre .0 .problem) (s .pre .0 .same), s .pre .1 .0) in
     let n = s .args .nums .now in
     let d = s .args .dens .now in
-    subst (λ t. TableBuilt (p .terms) t Done n d (l .loop .nums) (l .loop .dens) (s .args .heads .now) (s .args .inputs .now) (l .loop .heads) (l .loop .inputs) (set sets 192 ALL)) all
+    subst (λ t. TableBuilt (p .terms) t Done n d (l .loop .nums) (l .loop .dens) (s .args .heads .now) (s .args .inputs .now) (l .loop .heads) (l .loop .inputs) (set after 193 ALL)) all
     (rising-ends (p .terms) n d (s .args .heads .now) (s .args .inputs .now) (l .loop .t) (all ∙ count s p e) (l .loop .inv .9 p e)
-    (sparse-same (λ k below. getD-set-other sets 192 k ALL 0 (λ at. omega arith)) (l .loop .inv .7))
-    (linked-same few (λ j k below place. l .loop .inv .6 .small (3 * j + k) (omega arith)) (λ k low high. getD-set-other sets 192 k ALL 0 (λ at. omega arith)) (l .loop .inv .8))
-    (λ j below. ap (λ x. holds x j) (getD-set-same sets 192 ALL 0 (omega arith)) ∙ holds-all j below))
+    (sparse-same (λ k below. other k (omega arith)) (l .loop .inv .7))
+    (linked-same few (λ j k below place. l .loop .inv .6 .small (3 * j + k) (omega arith)) (λ k low high. other k high) (l .loop .inv .8))
+    (λ j below. ap (λ x. holds x j) (getD-set-other after 193 192 ALL 0 (λ at. omega arith) ∙ getD-set-same sets 192 ALL 0 (omega arith)) ∙ holds-all j below)
+    (λ j below. ap (λ x. holds x j) (getD-set-same after 193 ALL 0 (omega (arith, length-set sets 192 ALL))) ∙ holds-all j below))
 
 pub build-spec : {M : Type 1} → statement M
 build-spec =
@@ -263,6 +269,7 @@ build-spec =
     same-length-5
     returns
     slice-write-sets
+    slice-write-sets-2
     same-length-6
     same-length-7
     same-length-8

@@ -1,13 +1,15 @@
 -- `due::is_due` meets its contract. Assumes nothing.
 use borrow.Author.Needs.{needs}
 use borrow.Author.Tests.{not-true, not-false}
-use mathlib.Core.Path.{_≡_, sym, _∙_}
+use mathlib.Core.Path.{_≡_, sym, ap, _∙_}
+use mathlib.Core.Bool.{not, _&&_}
 use mathlib.Core.List.{List}
+use Rattle.run.specs.Row.{sameRow}
 use Rattle.table.specs.Held.{tableAt}
 use Rattle.problem.specs.declared.Term.{Term}
 use Rattle.problem.specs.Lookup.{alike, kindAt}
-use Rattle.due.specs.Found.{Lookups, sameInputs}
-use Rattle.due.proofs.Heads.{due-alike, due-unlike, merged-already, inputs-decide}
+use Rattle.due.specs.Found.{Lookups}
+use Rattle.due.proofs.Heads.{due-alike, due-unlike}
 use Rattle.due.proofs.is_due.Statement.{statement}
 use Rattle.due.proofs.is_due.Tie as tie
 
@@ -25,28 +27,28 @@ returns : tie.Need-returns
 returns c = λ terms lookups.
     sym (due-unlike terms _ _ _ lookups _ _ _ (search needs) (search needs) (sym (alike-is (c .before) terms lookups) ∙ not-true (c .before .same-function .result) (c .if1 .taken)))
 
-same-terms-requires : tie.Need-same-terms-requires
-same-terms-requires c κs = search needs
+same-inputs-requires : tie.Need-same-inputs-requires
+same-inputs-requires c κs = search needs
 
 returns-2 : tie.Need-returns-2
 returns-2 c = λ terms lookups.
     let first = c .before .before .before in
     let args = first .before .before .before .before .args in
-    let test = c .before .same-terms in
+    let test = c .before .same-inputs in
     sym (due-alike terms _ _ _ lookups _ _ _ (search needs) (search needs) (sym (alike-is first terms lookups) ∙ not-false (first .same-function .result) (c .before .before .if1 .left))
-    ∙ merged-already (sameInputs (tableAt (args .n) (args .nums .now) (args .dens .now)) (args .inputs .now) (args .i) (args .j)) (sym (test .ensures) ∙ c .if2 .taken))
+    ∙ ap (λ b. b && not (sameRow (tableAt (args .n) (args .nums .now) (args .dens .now)) (args .i) (args .j))) (sym (test .ensures) ∙ not-true (test .result) (c .if2 .taken)))
 
-same-inputs-requires : tie.Need-same-inputs-requires
-same-inputs-requires c κs = search needs
+same-terms-requires : tie.Need-same-terms-requires
+same-terms-requires c κs = search needs
 
 returns-3 : tie.Need-returns-3
 returns-3 c = λ terms lookups.
     let first = c .before .before .before .before in
     let args = first .before .before .before .before .args in
-    let test = c .before .before .same-terms in
-    c .same-inputs .ensures
+    let test = c .before .before .same-inputs in
+    ap not (c .same-terms .ensures)
     ∙ sym (due-alike terms _ _ _ lookups _ _ _ (search needs) (search needs) (sym (alike-is first terms lookups) ∙ not-false (first .same-function .result) (c .before .before .before .if1 .left))
-    ∙ inputs-decide (sameInputs (tableAt (args .n) (args .nums .now) (args .dens .now)) (args .inputs .now) (args .i) (args .j)) (sym (test .ensures) ∙ c .before .if2 .left))
+    ∙ ap (λ b. b && not (sameRow (tableAt (args .n) (args .nums .now) (args .dens .now)) (args .i) (args .j))) (sym (test .ensures) ∙ not-false (test .result) (c .before .if2 .left)))
 
 pub is-due-spec : {M : Type 1} → statement M
 is-due-spec =
@@ -54,7 +56,7 @@ is-due-spec =
     (tie.spec
     same-function-requires
     returns
-    same-terms-requires
-    returns-2
     same-inputs-requires
+    returns-2
+    same-terms-requires
     returns-3)

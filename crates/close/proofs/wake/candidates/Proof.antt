@@ -1,10 +1,10 @@
--- `due::candidates` meets its contract. Assumes nothing.
+-- `close::wake::candidates` meets its contract. Assumes nothing.
 use borrow.Author.Needs.{needs}
 use mathlib.Core.Path.{sym, _∙_}
 use mathlib.Core.Bool.{or-true, or-false, and-true}
 use Rattle.table.specs.Sparse.{earlierOf, pendingOf}
-use Rattle.due.proofs.candidates.Statement.{statement}
-use Rattle.due.proofs.candidates.Tie as tie
+use Rattle.close.proofs.wake.candidates.Statement.{statement}
+use Rattle.close.proofs.wake.candidates.Tie as tie
 
 add-earlier : tie.Need-add-earlier
 add-earlier c = search needs

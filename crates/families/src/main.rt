@@ -2,6 +2,7 @@
 // with `~` is one to be compared with it, by word, count and all places of both lists: `same`, or what differs. A line that begins with
 // `#` is a remark, written as it stands.
 use answer::Answer;
+use page::PAGE;
 use problem::PLACES;
 
 const TEXT: usize = 131072;
@@ -92,13 +93,20 @@ fn compare(
     compare_lists(nums, dens, base_nums, base_dens);
 }
 
+fn write_listing(bytes: &[u8], answer: Answer, nums: &[i32], dens: &[i32]) {
+    let mut text = [0u8; PAGE];
+    let end = page::listing_of(&mut text, bytes, answer, nums, dens);
+    let written = &text[0..end];
+    io::write_all(1, written);
+}
+
 // A problem of the family, decided in lists of its own that hold something else before. A refused one is not compared.
 fn member(bytes: &[u8], base: Answer, base_nums: &[i32], base_dens: &[i32]) {
     let mut nums = [-1i32; PLACES];
     let mut dens = [-1i32; PLACES];
     let answer = decide::decide(bytes, &mut nums, &mut dens);
     if word(answer) == REFUSED {
-        return print::listing(bytes, answer, &nums, &dens);
+        return write_listing(bytes, answer, &nums, &dens);
     }
     compare(answer, base, &nums, &dens, base_nums, base_dens);
 }
@@ -106,7 +114,7 @@ fn member(bytes: &[u8], base: Answer, base_nums: &[i32], base_dens: &[i32]) {
 // The first problem of a family.
 fn first(bytes: &[u8], nums: &mut [i32], dens: &mut [i32]) -> Answer {
     let answer = decide::decide(bytes, nums, dens);
-    print::listing(bytes, answer, nums, dens);
+    write_listing(bytes, answer, nums, dens);
     answer
 }
 

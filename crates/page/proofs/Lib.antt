@@ -1,2 +1,3 @@
 mod Behind
+mod Ends
 pub mod Unique

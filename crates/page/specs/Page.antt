@@ -1,12 +1,15 @@
--- The listing of a decided problem in a buffer, line by line.
--- Main definitions: `listRows`, `listPage`. Assumes nothing.
+-- The listing of a decided problem in a buffer, line by line, and the listing that begins the buffer.
+-- Main definitions: `listRows`, `listPage`, `pageOf`, `Paged`. Assumes nothing.
+use mathlib.Core.Path.{_≡_}
 use mathlib.Core.List.{List}
-use Prim.Native.Nat.{ℕ, zero, suc}
+use Prim.Native.Nat.{ℕ, zero, suc, _≤_}
+use lib.ListN.{length}
 use lib.IntN.{ℤ}
 use Rattle.answer.specs.declared.Answer.{Answer}
 use Rattle.answer.specs.declared.Answer.the-variants.{Entailed, NotEntailed, Contradictory, Refused}
 use Rattle.answer.specs.Refusals.{Refusal}
 use Rattle.fraction.specs.Made.{Made, made, stopped}
+use Rattle.problem.specs.Bits.{field}
 use Rattle.listing.specs.Listing.{Listed, listRow}
 use Rattle.lines.specs.Leaves.{listFirst}
 
@@ -22,6 +25,15 @@ unfoldable pub behind : (next : (place : ℕ) → (buffer : List ℕ) → Listed
 behind next (made place) buffer = next place buffer
 behind next (stopped refusal) buffer = record { reached = stopped refusal; buffer = buffer }
 
+-- 01, The problem record: "Header, 4 bytes: term count n (..)", its first 8 bits. Of no bytes that is 0.
+unfoldable pub termCount : (bytes : List ℕ) → ℕ
+termCount bytes = field bytes 0 8
+
+-- Where the lines that were listed end: "the new place reached, or on refusal the number and the old place".
+unfoldable pub endOf : Made Refusal ℕ → ℕ
+endOf (made place) = place
+endOf (stopped refusal) = refusal .place
+
 module _ (numerators denominators : List ℤ) where
   -- the lines of row t and of those after it, `count` in all
   unfoldable pub listRows : (count t place : ℕ) → (buffer : List ℕ) → Listed
@@ -35,3 +47,13 @@ module _ (numerators denominators : List ℤ) where
   listPage answer n place buffer =
       let line = listFirst answer place buffer in
       behind (listRows (rowsListed answer n) 0) (line .reached) (line .buffer)
+
+  -- the listing of a byte string that was decided so, from the start of the buffer
+  unfoldable pub pageOf : (bytes : List ℕ) → Answer → (buffer : List ℕ) → Listed
+  pageOf bytes answer buffer = listPage answer (termCount bytes) 0 buffer
+
+-- What listing leaves: the buffer by the rule, and the place at which the last whole line in it ends.
+pub record Paged (numerators denominators : List ℤ) (bytes : List ℕ) (answer : Answer) (before after : List ℕ) (end : ℕ) : Type 0 where
+  pub written : after ≡ pageOf numerators denominators bytes answer before .buffer
+  pub reached : end ≡ endOf (pageOf numerators denominators bytes answer before .reached)
+  pub within : end ≤ length after

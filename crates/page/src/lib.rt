@@ -1,9 +1,13 @@
-// The whole listing of a decided problem, written at a place of a lent buffer: the first line, then the rows.
+// The whole listing of a decided problem, written into a lent buffer: the first line, then the rows.
 use answer::Answer;
 use lines::Reached;
+use problem::TERMS;
 ghost use mathlib.Core.Path.{_≡_};
-ghost use Rattle.lines.specs.Leaves.{leaves};
-ghost use Rattle.page.specs.Page.{rowsListed, listRows, listPage};
+ghost use Rattle.lines.specs.Leaves.{reachedOf, leaves};
+ghost use Rattle.page.specs.Page.{rowsListed, listRows, listPage, termCount, endOf, Paged};
+
+// A first line and 64 rows, each with the 2,048 bytes that have to follow the place reached: room for every listing.
+pub const PAGE: usize = (TERMS + 1) * 2048;
 
 // 01, The listing: "For entailed and not-entailed a line for each term below n follows".
 fn row_count(answer: Answer, n: usize) -> usize
@@ -51,4 +55,33 @@ pub fn listing_into(
         Reached::At(end) => rows_into(buf, end, nums, dens, row_count(answer, n)),
         Reached::Refused { number, place } => Reached::Refused { number, place },
     }
+}
+
+// 01, The problem record: the first byte of the header is the term count.
+fn term_count(bytes: &[u8]) -> usize
+    ensures { λ r. ⌜ r ≡ termCount (now (bytes .entry)) ⌝ }
+{
+    if bytes.len() == 0 {
+        return 0;
+    }
+    bytes[0] as usize
+}
+
+// Where the lines that were listed end.
+fn end_of(reached: Reached) -> usize
+    ensures { λ r. ⌜ r ≡ endOf (reachedOf reached) ⌝ }
+{
+    match reached {
+        Reached::At(end) => end,
+        Reached::Refused { number: _, place } => place,
+    }
+}
+
+// Lists a byte string that was decided so from the start of the buffer, and answers how many bytes of it are the listing.
+pub fn listing_of(buf: &mut [u8], bytes: &[u8], answer: Answer, nums: &[i32], dens: &[i32]) -> usize
+    ensures { λ r. ⌜ Paged (now (nums .entry)) (now (dens .entry)) (now (bytes .entry)) answer (now (buf .entry)) (now (buf .exit)) r ⌝ }
+{
+    let n = term_count(bytes);
+    let reached = listing_into(buf, 0, answer, nums, dens, n);
+    end_of(reached)
 }

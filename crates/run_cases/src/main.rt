@@ -1,6 +1,7 @@
 // Decides problems, one a line in hexadecimal digits, and writes the listing of each. A line that begins with `#` is a remark, written
 // as it stands. Behind `<` the numerators lent are a place too short, behind `>` the denominators.
 
+use page::PAGE;
 use problem::PLACES;
 
 // 645 bytes are enough to judge any length.
@@ -10,7 +11,10 @@ const TOO_FEW: usize = 4159;
 
 fn decided(bytes: &[u8], nums: &mut [i32], dens: &mut [i32]) {
     let answer = decide::decide(bytes, nums, dens);
-    print::listing(bytes, answer, nums, dens);
+    let mut text = [0u8; PAGE];
+    let end = page::listing_of(&mut text, bytes, answer, nums, dens);
+    let written = &text[0..end];
+    io::write_all(1, written);
 }
 
 fn whole(bytes: &[u8]) {

@@ -1,6 +1,6 @@
 -- Where a listing ends: within the buffer; and the term count, which is the first byte.
 -- Main results: `page-within`, `paged`, `no-bytes`, `first-byte`. Assume nothing.
-use mathlib.Core.Path.{_≡_, refl, sym, _∙_}
+use mathlib.Core.Path.{_≡_, refl}
 use mathlib.Core.Bool.{Bool, true, false, _&&_, cond}
 use mathlib.Core.List.{List, [], _∷_, _++_}
 use Prim.Native.Nat.{ℕ, zero, suc, _+_, _≤_, _<_}

@@ -1,5 +1,4 @@
 -- `page::end_of` meets its contract. Assumes nothing.
-use mathlib.Core.Path.{_≡_, sym, ap}
 use Rattle.problem.specs.Problem.{refuse}
 use Rattle.lines.specs.Leaves.{reachedOf}
 use Rattle.page.specs.Page.{endOf}

@@ -1,5 +1,5 @@
 -- `page::listing_of` meets its contract: the listing of `listing_into` from place 0, up to where it ends. Assumes nothing.
-use mathlib.Core.Path.{_≡_, sym, ap, _∙_}
+use mathlib.Core.Path.{ap, _∙_}
 use Rattle.lines.specs.Leaves.{leaves}
 use Rattle.page.specs.Page.{listPage, endOf, pageOf}
 use Rattle.page.proofs.Ends.{paged}

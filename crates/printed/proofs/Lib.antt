@@ -1,0 +1,4 @@
+mod Limits
+mod Rows
+mod Pages
+pub mod Printed

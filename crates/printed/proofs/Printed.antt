@@ -1,0 +1,143 @@
+-- What is written for a byte string is the listing that the rules lay down for it.
+-- Main results: `outcome-listed`, `short-listed`, `calls-print`. Assume nothing.
+use mathlib.Core.Path.{_≡_, refl, sym, ap, _∙_}
+use mathlib.Core.Logic.{_⊎_, inl, inr}
+use mathlib.Core.Bool.{Bool, true, false, _&&_, cond}
+use mathlib.Core.List.{List}
+use Prim.Native.Nat.{ℕ, _+_, _≤_, _<_}
+use native.Mathlib.Omega.{arith}
+use borrow.Author.Tests.{lt-leb}
+use lib.Dec.{leb}
+use lib.ListN.{length, take, drop, length-append}
+use lib.Seq.{take-at}
+use lib.IntN.{ℤ}
+use Rattle.answer.specs.declared.Answer.{Answer}
+use Rattle.answer.specs.declared.Answer.the-variants.{Entailed, NotEntailed, Contradictory, Refused}
+use Rattle.answer.specs.Refusals.{Refusal, SPACE}
+use Rattle.answer.specs.Said.{said}
+use Rattle.fraction.specs.Made.{Made, made, stopped}
+use Rattle.problem.specs.Lookup.{kindAt}
+use Rattle.problem.specs.Problem.{Pair, Problem, decoded}
+use Rattle.problem.proofs.Holding.{terms-count}
+use Rattle.valuation.specs.Sound.{Sound}
+use Rattle.valuation.proofs.Decoded.{decoded-sound}
+use Rattle.run.specs.Row.{TERMS, sameRow}
+use Rattle.run.specs.Merge.{State}
+use Rattle.run.specs.Run.{byNumber, run, judged}
+use Rattle.invariant.specs.Invariant.{OneToOne, isUnknown, Ended}
+use Rattle.invariant.proofs.Count.{count-below}
+use Rattle.invariant.proofs.Granted.{by-number-one-to-one, sound-shaped, sound-sides}
+use Rattle.invariant.proofs.Run.{run-finished, run-stopped, run-count}
+use Rattle.outcome.specs.Outcome.{unread, cutShort, finished, afterRun, afterReading, decision, answered, PLACES, Outcome, after, outcome}
+use Rattle.outcome.proofs.Decided.{outcome-long-enough}
+use Rattle.finish.specs.Leaves.{leaves}
+use Rattle.decide.specs.Decided.{Decided}
+use Rattle.listing.specs.Text.{ascii}
+use Rattle.listing.specs.Line.{wordsOf, firstLine}
+use Rattle.listing.specs.Listing.{listed, listing, putAt, Listed}
+use Rattle.text.proofs.Decimal.{decimal-length}
+use Rattle.page.specs.Page.{rowsListed, termCount, endOf, pageOf, Paged}
+use Rattle.printed.proofs.Limits.{run-limited}
+use Rattle.printed.proofs.Pages.{put, first-alone, first-then-rows}
+
+-- The answer of a run that stops has no rows,
+stopped-rows : (problem : Problem) (answer : Answer) (n : ℕ) → Ended (problem .terms) (problem .pairs) answer → rowsListed answer n ≡ 0
+unfolding Ended rowsListed
+stopped-rows problem (Entailed solved) n ended = absurd ended
+stopped-rows problem (NotEntailed solved) n ended = absurd ended
+stopped-rows problem (Contradictory place) n ended = refl
+stopped-rows problem (Refused number place) n ended = refl
+
+-- and that of a finished run has all, behind a first line that is short.
+module _ (goal : Pair) (state : State) where
+  judged-rows : (n : ℕ) → rowsListed (judged goal state) n ≡ n
+  unfolding judged rowsListed
+  judged-rows n = by (sameRow (state .table) (goal .left) (goal .right))
+    where
+      by : (b : Bool) → rowsListed (cond b (Entailed (state .solved)) (NotEntailed (state .solved))) n ≡ n
+      by true = refl
+      by false = refl
+
+  judged-length : state .solved ≤ 64 → length (firstLine (judged goal state)) ≤ 2048
+  unfolding judged firstLine wordsOf said ascii
+  judged-length few = by (sameRow (state .table) (goal .left) (goal .right))
+    where
+      by : (b : Bool) → length (firstLine (cond b (Entailed (state .solved)) (NotEntailed (state .solved)))) ≤ 2048
+      by true = simp length-append (omega (arith, decimal-length 1 0 (omega arith), decimal-length 1 (state .solved) (omega arith)))
+      by false = simp length-append (omega (arith, decimal-length 1 0 (omega arith), decimal-length 1 (state .solved) (omega arith)))
+
+module _ (rank : ℕ → ℕ) (one-to-one : OneToOne rank) (bytes : List ℕ) (numerators denominators : List ℤ) (buffer : List ℕ) where
+  -- the page of what comes back
+  abbrev pageFor : Outcome → Listed
+  pageFor o = pageOf (o .numerators) (o .denominators) bytes (o .answer) buffer
+
+  unread-listed : (refusal : Refusal) → 2048 ≤ length buffer → pageFor (after (unread refusal) numerators denominators) ≡ put (listed (unread refusal)) 0 buffer
+  unfolding pageOf listed after answered rowsListed
+  unread-listed refusal room = first-alone numerators denominators (Refused (refusal .number) (refusal .place)) (termCount bytes) buffer refl room
+
+  -- Lists that are too short: the first line of refusal 1.
+  pub short-listed : (length numerators < PLACES) ⊎ (length denominators < PLACES) → 2048 ≤ length buffer → pageFor (outcome rank bytes numerators denominators) ≡ put (firstLine (Refused SPACE 0)) 0 buffer
+  unfolding outcome listed answered
+  short-listed short room = by (leb PLACES (length numerators)) (leb PLACES (length denominators)) (failing short)
+    where
+      failing : (length numerators < PLACES) ⊎ (length denominators < PLACES) → (leb PLACES (length numerators) ≡ false) ⊎ (leb PLACES (length denominators) ≡ false)
+      failing (inl few) = inl (lt-leb _ _ few)
+      failing (inr few) = inr (lt-leb _ _ few)
+
+      by : (a b : Bool) → (a ≡ false) ⊎ (b ≡ false) → pageFor (cond (a && b) (after (decision rank bytes) numerators denominators) (after (unread (record { number = SPACE; place = 0 })) numerators denominators)) ≡ put (firstLine (Refused SPACE 0)) 0 buffer
+      by a b (inl fails) = rw fails (unread-listed (record { number = SPACE; place = 0 }) room)
+      by true b (inr fails) = rw fails (unread-listed (record { number = SPACE; place = 0 }) room)
+      by false b (inr fails) = unread-listed (record { number = SPACE; place = 0 }) room
+
+  module _ (first : PLACES ≤ length numerators) (second : PLACES ≤ length denominators) (room : 133120 ≤ length buffer) where
+    module _ (problem : Problem) (read : decoded bytes ≡ made problem) where
+      sound : Sound problem
+      sound = decoded-sound bytes problem read
+
+      stopped-listed : (answer : Answer) → run rank problem ≡ stopped answer → pageFor (after (cutShort answer) numerators denominators) ≡ put (listed (cutShort answer)) 0 buffer
+      unfolding pageOf listed after
+      stopped-listed answer h =
+          let none = stopped-rows problem answer (termCount bytes) (run-stopped rank problem one-to-one (sound-shaped problem sound) (sound-sides problem sound) answer h) in
+          first-alone _ _ answer (termCount bytes) buffer none (omega arith)
+
+      finished-listed : (state : State) → run rank problem ≡ made state → pageFor (after (finished (judged (problem .goal) state) (state .table)) numerators denominators) ≡ put (listed (finished (judged (problem .goal) state) (state .table))) 0 buffer
+      unfolding pageOf listed after termCount TERMS
+      finished-listed state h =
+          let complete = run-finished rank problem one-to-one (sound-shaped problem sound) (sound-sides problem sound) state h in
+          let count = run-count rank problem one-to-one (sound-shaped problem sound) (sound-sides problem sound) state h in
+          let rows : length (state .table) ≡ termCount bytes = complete .invariant .sized ∙ terms-count bytes problem read in
+          let few : length (problem .terms) ≤ 64 = sound .most in
+          first-then-rows (state .table) numerators denominators (run-limited rank bytes problem read state h) first second
+          (omega (arith, complete .invariant .sized))
+          (judged (problem .goal) state) (termCount bytes) buffer
+          (judged-rows (problem .goal) state (termCount bytes) ∙ sym rows)
+          (judged-length (problem .goal) state (omega (arith, count-below (length (problem .terms)) (λ c. isUnknown (kindAt (problem .terms) c)))))
+          room
+
+      run-listed : (step : Made Answer State) → run rank problem ≡ step → pageFor (after (afterRun problem step) numerators denominators) ≡ put (listed (afterRun problem step)) 0 buffer
+      unfolding afterRun
+      run-listed (made state) h = finished-listed state h
+      run-listed (stopped answer) h = stopped-listed answer h
+
+    -- What comes back, listed from the start of a buffer of 133,120 bytes, is the rules' listing of the byte string, and nothing else changes.
+    pub outcome-listed : pageFor (outcome rank bytes numerators denominators) ≡ put (listing rank bytes) 0 buffer
+    unfolding listing decision afterReading
+    outcome-listed = ap pageFor (outcome-long-enough rank bytes numerators denominators first second) ∙ by (decoded bytes) refl
+      where
+        by : (step : Made Refusal Problem) → decoded bytes ≡ step → pageFor (after (afterReading rank step) numerators denominators) ≡ put (listed (afterReading rank step)) 0 buffer
+        by (made problem) read = run-listed problem read (run rank problem) refl
+        by (stopped refusal) read = unread-listed refusal (omega arith)
+
+take-put : (text buffer : List ℕ) → take (0 + length text) (putAt 0 text buffer) ≡ text
+unfolding putAt
+take-put text buffer = take-at text (drop (0 + length text) buffer) (0 + length text) (omega arith)
+
+-- From the contracts of `decide::decide` and `page::listing_of` alone: the bytes that a program writes which calls the one, with lists that
+-- are long enough, and then the other, with what the first left and a buffer of 133,120 bytes, are the rules' listing.
+pub calls-print : (bytes : List ℕ) (nums dens nums′ dens′ : List ℤ) (answer : Answer) (before text : List ℕ) (end : ℕ) → PLACES ≤ length nums → PLACES ≤ length dens → 133120 ≤ length before → Decided bytes nums dens (leaves answer nums′ dens′) → Paged nums′ dens′ bytes answer before text end → take end text ≡ listing byNumber bytes
+unfolding put endOf
+calls-print bytes nums dens nums′ dens′ answer before text end first second room decided paged =
+    let page : pageOf nums′ dens′ bytes answer before ≡ put (listing byNumber bytes) 0 before = ap (λ o. pageOf (o .numerators) (o .denominators) bytes (o .answer) before) (sym (decided .rules)) ∙ outcome-listed byNumber by-number-one-to-one bytes nums dens before first second room in
+    let reached : end ≡ 0 + length (listing byNumber bytes) = paged .reached ∙ ap (λ l. endOf (l .reached)) page in
+    let written : text ≡ putAt 0 (listing byNumber bytes) before = paged .written ∙ ap (λ l. l .buffer) page in
+    rw (reached, written) (take-put (listing byNumber bytes) before)

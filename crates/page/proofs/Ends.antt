@@ -21,7 +21,7 @@ use Rattle.run.specs.Row.{TERMS}
 use Rattle.outcome.specs.Outcome.{PLACES}
 use Rattle.listing.specs.Listing.{allFractions, placesOf, heldRow, Listed, putAt, listRow}
 use Rattle.lines.specs.Leaves.{listFirst}
-use Rattle.page.specs.Page.{rowsListed, behind, listRows, listPage, termCount, endOf, pageOf, Paged}
+use Rattle.page.specs.Page.{rowsListed, behind, listRows, listPage, endOf, pageOf, Paged}
 
 -- what was listed ends within the buffer
 record Within (listed : Listed) : Type 0 where
@@ -67,7 +67,7 @@ module _ (nums dens : List ℤ) where
   unfolding pageOf listPage listFirst
   page-within bytes answer buffer =
       let first = either-within (leb (0 + 2048) (length buffer)) _ _ (put-within 0 (firstLine answer) buffer (omega arith)) (refused-within SPACE 0 buffer (omega arith)) in
-      behind-within (listRows nums dens (rowsListed answer (termCount bytes)) 0) (rows-within (rowsListed answer (termCount bytes)) 0) _ _ first .ends
+      behind-within (listRows nums dens (rowsListed answer (field bytes 0 8)) 0) (rows-within (rowsListed answer (field bytes 0 8)) 0) _ _ first .ends
 
   -- So the buffer and the end that the rule gives are all that a call has to leave.
   pub paged : (bytes : List ℕ) (answer : Answer) (before : List ℕ) {after : List ℕ} {end : ℕ} → after ≡ pageOf nums dens bytes answer before .buffer → end ≡ endOf (pageOf nums dens bytes answer before .reached) → Paged nums dens bytes answer before after end
@@ -79,12 +79,12 @@ module _ (nums dens : List ℤ) where
       }
 
 -- A byte string of no bytes has no terms,
-pub no-bytes : (bytes : List ℕ) → length bytes ≡ 0 → 0 ≡ termCount bytes
-unfolding termCount field bitAt
+pub no-bytes : (bytes : List ℕ) → length bytes ≡ 0 → 0 ≡ field bytes 0 8
+unfolding field bitAt
 no-bytes [] none = refl
 no-bytes (byte ∷ bytes) none = absurd (omega arith)
 
 -- and any other as many as its first byte says.
-pub first-byte : (bytes : List ℕ) → ((i : ℕ) → getD bytes i 0 < 256) → getD bytes 0 0 ≡ termCount bytes
-unfolding termCount numberAt
+pub first-byte : (bytes : List ℕ) → ((i : ℕ) → getD bytes i 0 < 256) → getD bytes 0 0 ≡ field bytes 0 8
+unfolding numberAt
 first-byte bytes small = omega (arith, small 0, field-number bytes 0 small 1 8 0 0 refl)

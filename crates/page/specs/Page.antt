@@ -25,10 +25,6 @@ unfoldable pub behind : (next : (place : ℕ) → (buffer : List ℕ) → Listed
 behind next (made place) buffer = next place buffer
 behind next (stopped refusal) buffer = record { reached = stopped refusal; buffer = buffer }
 
--- 01, The problem record: "Header, 4 bytes: term count n (..)", its first 8 bits. Of no bytes that is 0.
-unfoldable pub termCount : (bytes : List ℕ) → ℕ
-termCount bytes = field bytes 0 8
-
 -- Where the lines that were listed end: "the new place reached, or on refusal the number and the old place".
 unfoldable pub endOf : Made Refusal ℕ → ℕ
 endOf (made place) = place
@@ -48,9 +44,10 @@ module _ (numerators denominators : List ℤ) where
       let line = listFirst answer place buffer in
       behind (listRows (rowsListed answer n) 0) (line .reached) (line .buffer)
 
-  -- the listing of a byte string that was decided so, from the start of the buffer
+  -- The listing of a byte string that was decided so, from the start of the buffer. 01, The problem record: "Header, 4 bytes: term
+  -- count n (..)", the first 8 bits; a byte string without any has n = 0.
   unfoldable pub pageOf : (bytes : List ℕ) → Answer → (buffer : List ℕ) → Listed
-  pageOf bytes answer buffer = listPage answer (termCount bytes) 0 buffer
+  pageOf bytes answer buffer = let n = field bytes 0 8 in listPage answer n 0 buffer
 
 -- What listing leaves: the buffer by the rule, and the place at which the last whole line in it ends.
 pub record Paged (numerators denominators : List ℤ) (bytes : List ℕ) (answer : Answer) (before after : List ℕ) (end : ℕ) : Type 0 where

@@ -3,8 +3,9 @@ use answer::Answer;
 use lines::Reached;
 use problem::TERMS;
 ghost use mathlib.Core.Path.{_≡_};
+ghost use Rattle.problem.specs.Bits.{field};
 ghost use Rattle.lines.specs.Leaves.{reachedOf, leaves};
-ghost use Rattle.page.specs.Page.{rowsListed, listRows, listPage, termCount, endOf, Paged};
+ghost use Rattle.page.specs.Page.{rowsListed, listRows, listPage, endOf, Paged};
 
 // A first line and 64 rows, each with the 2,048 bytes that have to follow the place reached: room for every listing.
 pub const PAGE: usize = (TERMS + 1) * 2048;
@@ -59,7 +60,7 @@ pub fn listing_into(
 
 // 01, The problem record: the first byte of the header is the term count.
 fn term_count(bytes: &[u8]) -> usize
-    ensures { λ r. ⌜ r ≡ termCount (now (bytes .entry)) ⌝ }
+    ensures { λ r. ⌜ r ≡ field (now (bytes .entry)) 0 8 ⌝ }
 {
     if bytes.len() == 0 {
         return 0;

@@ -2,3 +2,4 @@ mod Limits
 mod Rows
 mod Pages
 pub mod Printed
+pub mod Enough

@@ -16,6 +16,7 @@ use Rattle.answer.specs.declared.Answer.the-variants.{Entailed, NotEntailed, Co
 use Rattle.answer.specs.Refusals.{Refusal, SPACE}
 use Rattle.answer.specs.Said.{said}
 use Rattle.fraction.specs.Made.{Made, made, stopped}
+use Rattle.problem.specs.Bits.{field}
 use Rattle.problem.specs.Lookup.{kindAt}
 use Rattle.problem.specs.Problem.{Pair, Problem, decoded}
 use Rattle.problem.proofs.Holding.{terms-count}
@@ -36,7 +37,7 @@ use Rattle.listing.specs.Text.{ascii}
 use Rattle.listing.specs.Line.{wordsOf, firstLine}
 use Rattle.listing.specs.Listing.{listed, listing, putAt, Listed}
 use Rattle.text.proofs.Decimal.{decimal-length}
-use Rattle.page.specs.Page.{rowsListed, termCount, endOf, pageOf, Paged}
+use Rattle.page.specs.Page.{rowsListed, endOf, pageOf, Paged}
 use Rattle.printed.proofs.Limits.{run-limited}
 use Rattle.printed.proofs.Pages.{put, first-alone, first-then-rows}
 
@@ -73,7 +74,7 @@ module _ (rank : ℕ → ℕ) (one-to-one : OneToOne rank) (bytes : List ℕ) (n
 
   unread-listed : (refusal : Refusal) → 2048 ≤ length buffer → pageFor (after (unread refusal) numerators denominators) ≡ put (listed (unread refusal)) 0 buffer
   unfolding pageOf listed after answered rowsListed
-  unread-listed refusal room = first-alone numerators denominators (Refused (refusal .number) (refusal .place)) (termCount bytes) buffer refl room
+  unread-listed refusal room = first-alone numerators denominators (Refused (refusal .number) (refusal .place)) (field bytes 0 8) buffer refl room
 
   -- Lists that are too short: the first line of refusal 1.
   pub short-listed : (length numerators < PLACES) ⊎ (length denominators < PLACES) → 2048 ≤ length buffer → pageFor (outcome rank bytes numerators denominators) ≡ put (firstLine (Refused SPACE 0)) 0 buffer
@@ -97,20 +98,20 @@ module _ (rank : ℕ → ℕ) (one-to-one : OneToOne rank) (bytes : List ℕ) (n
       stopped-listed : (answer : Answer) → run rank problem ≡ stopped answer → pageFor (after (cutShort answer) numerators denominators) ≡ put (listed (cutShort answer)) 0 buffer
       unfolding pageOf listed after
       stopped-listed answer h =
-          let none = stopped-rows problem answer (termCount bytes) (run-stopped rank problem one-to-one (sound-shaped problem sound) (sound-sides problem sound) answer h) in
-          first-alone _ _ answer (termCount bytes) buffer none (omega arith)
+          let none = stopped-rows problem answer (field bytes 0 8) (run-stopped rank problem one-to-one (sound-shaped problem sound) (sound-sides problem sound) answer h) in
+          first-alone _ _ answer (field bytes 0 8) buffer none (omega arith)
 
       finished-listed : (state : State) → run rank problem ≡ made state → pageFor (after (finished (judged (problem .goal) state) (state .table)) numerators denominators) ≡ put (listed (finished (judged (problem .goal) state) (state .table))) 0 buffer
-      unfolding pageOf listed after termCount TERMS
+      unfolding pageOf listed after TERMS
       finished-listed state h =
           let complete = run-finished rank problem one-to-one (sound-shaped problem sound) (sound-sides problem sound) state h in
           let count = run-count rank problem one-to-one (sound-shaped problem sound) (sound-sides problem sound) state h in
-          let rows : length (state .table) ≡ termCount bytes = complete .invariant .sized ∙ terms-count bytes problem read in
+          let rows : length (state .table) ≡ field bytes 0 8 = complete .invariant .sized ∙ terms-count bytes problem read in
           let few : length (problem .terms) ≤ 64 = sound .most in
           first-then-rows (state .table) numerators denominators (run-limited rank bytes problem read state h) first second
           (omega (arith, complete .invariant .sized))
-          (judged (problem .goal) state) (termCount bytes) buffer
-          (judged-rows (problem .goal) state (termCount bytes) ∙ sym rows)
+          (judged (problem .goal) state) (field bytes 0 8) buffer
+          (judged-rows (problem .goal) state (field bytes 0 8) ∙ sym rows)
           (judged-length (problem .goal) state (omega (arith, count-below (length (problem .terms)) (λ c. isUnknown (kindAt (problem .terms) c)))))
           room
 

@@ -1,15 +1,16 @@
 -- Fractions in lowest terms, as the code holds them.
--- Main results: `ℚ-same`, `lowest-num`, `lowest-den`, `value-num`, `value-den`, `value-one-to-one`. Assume nothing.
+-- Main results: `ℚ-same`, `lowest-num`, `lowest-den`, `value-num`, `value-den`, `value-one-to-one`, `zero-den`. Assume nothing.
 use mathlib.Core.HLevel.{isProp→PathP}
 use mathlib.Core.Path.{_≡_, refl, sym, ap, _∙_}
 use Prim.Native.Nat.{ℕ, zero, suc, _/_, _<_}
 use native.Mathlib.Bridge.{le-prop}
-use native.Mathlib.Nat.{ℕ-set, div-one}
+use native.Mathlib.Nat.{ℕ-set, div-one, zero-mod}
 use native.Mathlib.Omega.{arith}
 use lib.IntN.{ℤ, pos, negsuc, natAbs}
 use Rattle.whole.specs.Gcd.{gcd}
 use Rattle.whole.specs.Signed.{signed}
 use Rattle.whole.proofs.Sizes.{size-signed}
+use Rattle.whole.proofs.Steps.{gcd-stops, gcd-step}
 use Rattle.fraction.specs.Exact.{ℚ, frac, value}
 use Rattle.fraction.specs.declared.Fraction.{Fraction}
 use Rattle.arithmetic.specs.Values.{Good}
@@ -66,3 +67,12 @@ value-one-to-one {f} {g} p q e =
     let d : natAbs (f .den) ≡ natAbs (g .den) = sym (value-den p) ∙ ap (λ x. x .den) e ∙ value-den q in
     let s : f .den ≡ g .den = p .upward ∙ ap pos d ∙ sym (q .upward) in
     λ i. record { num = n i; den = s i }
+
+-- The greatest common divisor of 0 and a number is the number.
+pub gcd-nothing : (d : ℕ) → 0 < d → gcd 0 d ≡ d
+gcd-nothing d h = gcd-step 0 d h ∙ ap (gcd d) (zero-mod d) ∙ gcd-stops d
+
+-- Zero is 0/1.
+pub zero-den : {a : Fraction} → Good a → a .num ≡ pos 0 → a .den ≡ pos 1
+zero-den {a} good e =
+    good .upward ∙ ap pos (sym (gcd-nothing (natAbs (a .den)) (good .least)) ∙ ap (λ x. gcd x (natAbs (a .den))) (sym (ap natAbs e)) ∙ good .lowest)

@@ -4,7 +4,7 @@ use mathlib.Core.Path.{_≡_, sym, ap, ap₂, _∙_, subst}
 use Prim.Native.Nat.{ℕ, _*_, _/_, _^_, _<_, _≤_, _∣_}
 use native.Mathlib.Nat.{mul-one, mul-le-mul, eq-one-of-dvd-one, div-le-self}
 use native.Mathlib.Omega.{arith}
-use lib.IntN.{ℤ, pos, negℤ, natAbs, _+ℤ_, _*ℤ_}
+use lib.IntN.{ℤ, pos, negsuc, negℤ, natAbs, _+ℤ_, _*ℤ_}
 use mir.Syntax.{w32}
 use mir.Val.{SFits}
 use Rattle.whole.specs.Gcd.{gcd}
@@ -16,8 +16,8 @@ use Rattle.fraction.specs.Limits.{limit, tested, plus, times}
 use Rattle.fraction.specs.declared.Fraction.{Fraction}
 use Rattle.arithmetic.specs.Values.{Good, Stands}
 use Rattle.arithmetic.proofs.Linked.{stands}
-use Rattle.arithmetic.proofs.Lowest.{frac-num, frac-den, frac-size, lowest-num, lowest-den, value-num, value-den}
-use Rattle.integer.proofs.Words.{fits-size, size-product}
+use Rattle.arithmetic.proofs.Lowest.{frac-num, frac-den, frac-size, lowest-num, lowest-den, value-num, value-den, zero-den}
+use Rattle.whole.proofs.Words.{fits-size, size-product}
 
 -- a word of 32 bits holds the numbers of a good struct
 pub good-num : {f : Fraction} → Good f → SFits w32 (f .num)
@@ -85,14 +85,19 @@ inverse-is {a} good above n d =
     rw v (stands (frac (signed (a .num) (natAbs (a .den))) (natAbs (a .num))) (n ∙ sym num) (d ∙ ap pos (sym den))
     (omega (arith, ap natAbs num)) (omega arith))
 
--- The rule's inverse of 0 is 0/1.
-pub inverse-zero : {a f : Fraction} → Good a → natAbs (a .num) ≡ 0 → f .num ≡ pos 0 → f .den ≡ pos 1 → Stands f (inverse (value a))
+-- 0 is its own inverse by the rule.
+no-size : (z : ℤ) → natAbs z ≡ 0 → z ≡ pos 0
+no-size (pos n) none = ap pos none
+no-size (negsuc n) none = absurd (omega arith)
+
+pub inverse-zero : {a : Fraction} → Good a → natAbs (a .num) ≡ 0 → Stands a (inverse (value a))
 unfolding inverse frac zeroℚ whole limit
-inverse-zero {a} good none n d =
+inverse-zero {a} good none =
     let v : inverse (value a) ≡ frac (signed (a .num) (natAbs (a .den))) 0 =
     ap₂ (λ x y. frac (signed x y) (natAbs x)) (value-num good) (value-den good) ∙ ap (frac (signed (a .num) (natAbs (a .den)))) none
     in
-    rw v (stands zeroℚ n d (omega arith) (omega arith))
+    let zero = no-size (a .num) none in
+    rw v (stands zeroℚ zero (zero-den good zero) (omega arith) (omega arith))
 
 -- A struct with two numbers divided by their greatest common divisor stands for their fraction.
 pub lowest-stands : {f : Fraction} (n : ℤ) (d : ℕ) → 0 < d → f .num ≡ signed n (natAbs n / gcd (natAbs n) d) → f .den ≡ pos (d / gcd (natAbs n) d) → natAbs n ≤ limit → d ≤ limit → Stands f (frac n d)

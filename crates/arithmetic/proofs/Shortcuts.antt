@@ -2,7 +2,7 @@
 -- Main results: `answers-lowest`, `times-nothing`, `times-one`, `times-minus`, `plus-nothing`, `times-comm`, `plus-comm`. Assume nothing.
 use mathlib.Core.Path.{_≡_, refl, sym, ap, ap₂, _∙_, subst}
 use Prim.Native.Nat.{ℕ, suc, _*_, _/_, _^_, _<_, _≤_}
-use native.Mathlib.Nat.{mul-one, one-mul, mul-comm, zero-mod, zero-div, div-self}
+use native.Mathlib.Nat.{mul-one, one-mul, mul-comm, zero-div, div-self}
 use native.Mathlib.Omega.{arith}
 use lib.Dec.{T, ltb}
 use lib.IntN.{ℤ, pos, negsuc, negℤ, natAbs, _+ℤ_, _*ℤ_, +ℤ-idl, +ℤ-comm, zero-*ℤ, *ℤ-comm, *ℤ-negsuc}
@@ -18,9 +18,9 @@ use Rattle.fraction.specs.declared.Fraction.{Fraction}
 use Rattle.arithmetic.specs.Values.{Good, Stands, Answers}
 use Rattle.arithmetic.specs.declared.Made.the-variants.{Fits}
 use Rattle.arithmetic.proofs.Linked.{answers-fits}
-use Rattle.arithmetic.proofs.Lowest.{frac-num, frac-den, lowest-num, lowest-den, value-num, value-den}
+use Rattle.arithmetic.proofs.Lowest.{gcd-nothing, frac-num, frac-den, lowest-num, lowest-den, value-num, value-den, zero-den}
 use Rattle.arithmetic.proofs.Operations.{times-is, plus-is}
-use Rattle.integer.proofs.Steps.{gcd-stops, gcd-step}
+use Rattle.whole.proofs.Steps.{gcd-stops, gcd-step}
 
 -- A word of 32 bits that has the bits of a constant is that constant.
 pub word-is : {x : ℤ} (k : ℤ) → T (ltb (mag k) (2 ^ 31)) → SFits w32 x → ofZ w32 x ≡ ofZ w32 k → x ≡ k
@@ -29,14 +29,6 @@ word-is k t fits e = sym (toZ-ofZ fits) ∙ ap (toZ w32) e ∙ toZ-ofZ (sfits-li
 times-one-right : (z : ℤ) → z *ℤ pos 1 ≡ z
 times-one-right (pos n) = ap pos (mul-one n)
 times-one-right (negsuc n) = ap (λ x. negℤ (pos x)) (mul-one (suc n))
-
-gcd-nothing : (d : ℕ) → 0 < d → gcd 0 d ≡ d
-gcd-nothing d h = gcd-step 0 d h ∙ ap (gcd d) (zero-mod d) ∙ gcd-stops d
-
--- Zero is 0/1.
-zero-den : {a : Fraction} → Good a → a .num ≡ pos 0 → a .den ≡ pos 1
-zero-den {a} good e =
-    good .upward ∙ ap pos (sym (gcd-nothing (natAbs (a .den)) (good .least)) ∙ ap (λ x. gcd x (natAbs (a .den))) (sym (ap natAbs e)) ∙ good .lowest)
 
 -- What is in lowest terms and within the limits is the answer as it stands.
 pub answers-lowest : {f : Fraction} (n : ℤ) (d : ℕ) → 0 < d → gcd (natAbs n) d ≡ 1 → f .num ≡ n → f .den ≡ pos d → natAbs n ≤ limit → d ≤ limit → Answers (Fits f) (tested (frac n d))
@@ -60,18 +52,19 @@ plus-comm p q = ap tested (ap₂ frac (+ℤ-comm (p .num *ℤ pos (q .den)) (q .
 one-times-den : (a b : Fraction) → a .den ≡ pos 1 → natAbs (b .den) ≡ natAbs (a .den) * natAbs (b .den)
 one-times-den a b e = sym (ap (λ x. natAbs x * natAbs (b .den)) e ∙ one-mul (natAbs (b .den)))
 
--- 0 times anything is 0/1.
-pub times-nothing : {a b f : Fraction} → Good a → Good b → a .num ≡ pos 0 → f .num ≡ pos 0 → f .den ≡ pos 1 → Answers (Fits f) (times (value a) (value b))
+-- 0 times anything is 0.
+pub times-nothing : {a b : Fraction} → Good a → Good b → a .num ≡ pos 0 → Answers (Fits a) (times (value a) (value b))
 unfolding signed limit
-times-nothing {a} {b} {f} p q e num den =
+times-nothing {a} {b} p q e =
     let d = natAbs (b .den) in
     let n : pos 0 ≡ a .num *ℤ b .num = sym (ap (λ x. x *ℤ b .num) e ∙ zero-*ℤ (b .num)) in
     let top : frac (pos 0) d .num ≡ pos 0 = frac-num (pos 0) d (q .least) ∙ ap pos (zero-div (gcd 0 d)) in
     let bottom : frac (pos 0) d .den ≡ 1 =
     frac-den (pos 0) d (q .least) ∙ ap (λ x. d / x) (gcd-nothing d (q .least)) ∙ div-self (q .least)
     in
-    subst (Answers (Fits f)) (times-is p q n (one-times-den a b (zero-den p e)))
-    (answers-fits (frac (pos 0) d) (num ∙ sym top) (den ∙ ap pos (sym bottom)) (omega (arith, ap natAbs top)) (omega arith))
+    let whole = zero-den p e in
+    subst (Answers (Fits a)) (times-is p q n (one-times-den a b whole))
+    (answers-fits (frac (pos 0) d) (e ∙ sym top) (whole ∙ ap pos (sym bottom)) (omega (arith, ap natAbs top)) (omega arith))
 
 -- 1 times a fraction is the fraction.
 pub times-one : {a b : Fraction} → Good a → Good b → a .num ≡ pos 1 → a .den ≡ pos 1 → Answers (Fits b) (times (value a) (value b))

@@ -1,14 +1,14 @@
 -- Each contract leaves one answer.
 -- Main results: a law NAME-unique for each public function NAME. Assume nothing.
 use mathlib.Core.Path.{_≡_, sym, ap, _∙_}
-use Prim.Native.Nat.{ℕ, _/_}
+use Prim.Native.Nat.{ℕ, _*_, _/_}
 use native.Mathlib.Omega.{arith}
-use lib.IntN.{ℤ, pos}
+use lib.IntN.{ℤ, pos, natAbs}
 use Rattle.whole.specs.Gcd.{gcd}
 use Rattle.whole.specs.Signed.{signed}
 use Rattle.fraction.specs.Exact.{ℚ, frac, negℚ, inverse, value}
 use Rattle.fraction.specs.Made as rule
-use Rattle.fraction.specs.Limits.{tested, plus, minus, times, over}
+use Rattle.fraction.specs.Limits.{tested}
 use Rattle.fraction.specs.Made.{made, stopped}
 use Rattle.fraction.specs.declared.Fraction.{Fraction}
 use Rattle.arithmetic.specs.Values.{Stands, says, Sound, Answers}
@@ -39,18 +39,6 @@ answers-unique {r} {s} p q = says-one-to-one r s (p .sound) (q .sound) (p .same 
 pub stands-unique : {f g : Fraction} {q : ℚ} → Stands f q → Stands g q → f ≡ g
 stands-unique p q = value-one-to-one (p .good) (q .good) (p .same ∙ sym (q .same))
 
-pub product-unique : (a b : Fraction) (r s : Made) → Answers r (times (value a) (value b)) → Answers s (times (value a) (value b)) → r ≡ s
-product-unique a b r s p q = answers-unique p q
-
-pub sum-unique : (a b : Fraction) (r s : Made) → Answers r (plus (value a) (value b)) → Answers s (plus (value a) (value b)) → r ≡ s
-sum-unique a b r s p q = answers-unique p q
-
-pub difference-unique : (a b : Fraction) (r s : Made) → Answers r (minus (value a) (value b)) → Answers s (minus (value a) (value b)) → r ≡ s
-difference-unique a b r s p q = answers-unique p q
-
-pub quotient-unique : (a b : Fraction) (r s : Made) → Answers r (over (value a) (value b)) → Answers s (over (value a) (value b)) → r ≡ s
-quotient-unique a b r s p q = answers-unique p q
-
 pub negated-unique : (a : Fraction) (f g : Fraction) → Stands f (negℚ (value a)) → Stands g (negℚ (value a)) → f ≡ g
 negated-unique a f g p q = stands-unique p q
 
@@ -60,7 +48,7 @@ inverted-unique a f g p q = stands-unique p q
 pub lowered-unique : (a : Fraction) (f g : Fraction) → Stands f (value a) → Stands g (value a) → f ≡ g
 lowered-unique a f g p q = stands-unique p q
 
--- The functions that the operations share inside the crate.
+-- The functions that the operations share.
 pub lowest-unique : (top bottom : ℕ) (r s : Terms) → (r .top ≡ top / gcd top bottom) × (r .bottom ≡ bottom / gcd top bottom) → (s .top ≡ top / gcd top bottom) × (s .bottom ≡ bottom / gcd top bottom) → r ≡ s
 lowest-unique top bottom r s p q = λ i. record { top = (p .0 ∙ sym (q .0)) i; bottom = (p .1 ∙ sym (q .1)) i }
 
@@ -69,3 +57,6 @@ made-unique like top bottom f g p q = λ i. record { num = (p .0 ∙ sym (q .0))
 
 pub reduced-unique : (n : ℤ) (d : ℕ) (r s : Made) → Answers r (tested (frac n d)) → Answers s (tested (frac n d)) → r ≡ s
 reduced-unique n d r s p q = answers-unique p q
+
+pub bottoms-unique : (a b : Fraction) (r s : ℕ) → r ≡ natAbs (a .den) * natAbs (b .den) → s ≡ natAbs (a .den) * natAbs (b .den) → r ≡ s
+bottoms-unique a b r s p q = p ∙ sym q

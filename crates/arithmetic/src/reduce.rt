@@ -1,8 +1,8 @@
 // A whole number over another, in lowest terms and tested against the limits.
 use crate::Made;
 use answer::RANGE;
+use euclid::greatest;
 use fraction::Fraction;
-use integer::euclid::greatest;
 use integer::signed::narrow;
 use integer::signed::put_back;
 use integer::signed::size_wide;
@@ -79,7 +79,7 @@ fn lowered(n: i64, d: u64) -> Made
 }
 
 // The same, with no gcd where none is needed.
-pub(crate) fn reduced(n: i64, d: u64) -> Made
+pub fn reduced(n: i64, d: u64) -> Made
     requires { ⌜ natAbs n < 2 ^ 63 ⌝ }
     requires { ⌜ 0 < d ⌝ }
     ensures { λ r. ⌜ Answers r (tested (frac n d)) ⌝ }

@@ -53,12 +53,12 @@ fn built_column(kind: Kind, t: usize, c: usize, nums: &[i32], dens: &[i32]) -> M
 {
     match kind {
         Kind::Constant { value } => Made::Fits(alone(CONSTANT, value, c)),
-        Kind::Gain { factor, input } => arithmetic::product(factor, cell(nums, dens, input, c)),
+        Kind::Gain { factor, input } => products::product(factor, cell(nums, dens, input, c)),
         Kind::Sum { left, right } => {
-            arithmetic::sum(cell(nums, dens, left, c), cell(nums, dens, right, c))
+            sums::sum(cell(nums, dens, left, c), cell(nums, dens, right, c))
         }
         Kind::Difference { left, right } => {
-            arithmetic::difference(cell(nums, dens, left, c), cell(nums, dens, right, c))
+            sums::difference(cell(nums, dens, left, c), cell(nums, dens, right, c))
         }
         _ => Made::Fits(alone(t, Fraction { num: 1, den: 1 }, c)),
     }

@@ -27,8 +27,8 @@ fn gained(k: Fraction, form: Fraction, old: Fraction) -> Made
     requires { ⌜ Good old ⌝ }
     ensures { λ r. ⌜ Answers r (gainedBy (value k) (value form) (value old)) ⌝ }
 {
-    match arithmetic::product(k, form) {
-        Made::Fits(f) => arithmetic::sum(old, f),
+    match products::product(k, form) {
+        Made::Fits(f) => sums::sum(old, f),
         Made::Refused(number) => Made::Refused(number),
     }
 }

@@ -5,15 +5,11 @@ use mathlib.Core.Bool.{Bool, not}
 use Prim.Native.Nat.{ℕ}
 use lib.IntN.{ℤ, pos, negℤ, natAbs, _+ℤ_, _*ℤ_}
 use lib.Signed.{nonNeg}
-use Rattle.whole.specs.Gcd.{gcd}
 use Rattle.whole.specs.Signed.{signed}
 
 -- A contract that says what the answer is leaves one.
 pub answer-unique : {A : Type 0} {answer r s : A} → r ≡ answer → s ≡ answer → r ≡ s
 answer-unique p q = p ∙ sym q
-
-pub greatest-unique : (a b r s : ℕ) → r ≡ gcd a b → s ≡ gcd a b → r ≡ s
-greatest-unique a b r s p q = answer-unique p q
 
 pub wide-unique : (a r s : ℤ) → r ≡ a → s ≡ a → r ≡ s
 wide-unique a r s p q = answer-unique p q

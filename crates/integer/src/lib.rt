@@ -1,3 +1,2 @@
-// Whole numbers in code: the signed operations, one to a function, and Euclid's rule.
-pub mod euclid;
+// Whole numbers in code: the signed operations, one to a function.
 pub mod signed;

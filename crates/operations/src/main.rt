@@ -101,10 +101,10 @@ fn show_operations(a: Fraction, b: Fraction)
     io::write_all(1, b" and ");
     show_fraction(b);
     io::write_all(1, b":");
-    show(arithmetic::product(a, b));
-    show(arithmetic::quotient(a, b));
-    show(arithmetic::sum(a, b));
-    show(arithmetic::difference(a, b));
+    show(products::product(a, b));
+    show(products::quotient(a, b));
+    show(sums::sum(a, b));
+    show(sums::difference(a, b));
     io::write_all(1, b"\n");
 }
 

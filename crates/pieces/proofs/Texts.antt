@@ -14,7 +14,7 @@ use Rattle.whole.proofs.Lowest.{gcd-symmetric}
 use Rattle.whole.proofs.Sizes.{size-zero}
 use Rattle.fraction.specs.Exact.{ℚ, frac, zeroℚ, whole, eqℤ, eqℚ}
 use Rattle.fraction.specs.Limits.{limit, within}
-use Rattle.integer.proofs.Steps.{gcd-stops}
+use Rattle.whole.proofs.Steps.{gcd-stops}
 use Rattle.arithmetic.proofs.Lowest.{lowest-num, lowest-den}
 use Rattle.run.specs.Row.{Row, TERMS, constant, column}
 use Rattle.listing.specs.Text.{ascii, decimal}

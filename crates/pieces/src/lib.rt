@@ -1,5 +1,5 @@
 // The pieces of a row's line: the test of its places, and their texts.
-use integer::euclid::greatest;
+use euclid::greatest;
 use integer::signed::size;
 use problem::COLUMNS;
 use problem::TERMS;

@@ -55,7 +55,7 @@ pub fn difference(
         let at = bits::next(set, c);
         let a = table::get(nums, dens, left + at);
         let b = table::get(nums, dens, right + at);
-        match arithmetic::difference(a, b) {
+        match sums::difference(a, b) {
             Made::Fits(f) => {
                 table::put(d_nums, d_dens, at, f);
                 c = at + 1;
@@ -104,7 +104,7 @@ fn solved_cell(c: usize, p: usize, factor: Fraction, x: Fraction) -> Made
     if c == p {
         return Made::Fits(Fraction { num: 0, den: 1 });
     }
-    arithmetic::product(factor, x)
+    products::product(factor, x)
 }
 
 // 01, Merge: "every other column is divided by that coefficient and negated". The form takes the difference's place.

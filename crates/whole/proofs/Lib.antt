@@ -4,4 +4,6 @@ pub mod Lowest
 pub mod Ring
 pub mod Sizes
 pub mod Solver
+pub mod Steps
 pub mod Terms
+pub mod Words

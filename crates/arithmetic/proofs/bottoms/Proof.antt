@@ -8,7 +8,7 @@ use borrow.Author.Needs.{needs}
 use mir.Facts.{toZ-ofZ}
 use mir.Syntax.{w64}
 use Rattle.arithmetic.proofs.Operations.{good-den}
-use Rattle.integer.proofs.Words.{kept, size-product}
+use Rattle.whole.proofs.Words.{kept, size-product}
 use Rattle.arithmetic.proofs.bottoms.Statement.{statement}
 use Rattle.arithmetic.proofs.bottoms.Tie as tie
 

@@ -9,7 +9,7 @@ use mir.Syntax.{w64}
 use Rattle.whole.specs.Signed.{signed}
 use Rattle.fraction.specs.Limits.{limit}
 use Rattle.arithmetic.proofs.Operations.{good-num, good-den, inverse-is, inverse-zero}
-use Rattle.integer.proofs.Words.{read-back}
+use Rattle.whole.proofs.Words.{read-back}
 use Rattle.arithmetic.proofs.inverted.Statement.{statement}
 use Rattle.arithmetic.proofs.inverted.Tie as tie
 
@@ -23,11 +23,8 @@ size-is c = c .size .ensures ∙ ap natAbs (toZ-ofZ (good-num (c .before .before
 size2-is : (c : tie.After-size2) → c .size2 .result ≡ natAbs (c .before .before .before .before .before .before .before .args .a .den)
 size2-is c = c .size2 .ensures ∙ ap natAbs (toZ-ofZ (good-den (c .before .before .before .before .before .before .before .pre)))
 
-zero-requires : tie.Need-zero-requires
-zero-requires c κs = search needs
-
 returns : tie.Need-returns
-returns c = inverse-zero (c .before .before .before .before .pre) (sym (size-is (c .before .before)) ∙ c .before .if1 .taken) (c .zero .ensures .0) (c .zero .ensures .1)
+returns c = inverse-zero (c .before .before .before .pre) (sym (size-is (c .before)) ∙ c .if1 .taken)
 
 wide-requires : tie.Need-wide-requires
 wide-requires c κs = search needs
@@ -52,4 +49,4 @@ returns-2 c =
 pub inverted-spec : {M : Type 1} → statement M
 inverted-spec =
     tie.close
-    (tie.spec size-requires zero-requires returns wide-requires size-requires-2 made-requires returns-2)
+    (tie.spec size-requires returns wide-requires size-requires-2 made-requires returns-2)

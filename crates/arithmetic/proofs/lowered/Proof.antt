@@ -1,5 +1,5 @@
 use Rattle.arithmetic.proofs.Operations.{lowest-stands}
-use Rattle.integer.proofs.Words.{fits-size, read-back}
+use Rattle.whole.proofs.Words.{fits-size, read-back}
 use Rattle.fraction.specs.Limits.{limit}
 use Rattle.fraction.specs.Exact.{value}
 use Rattle.whole.specs.Signed.{signed}

@@ -6,7 +6,7 @@ use mir.Facts.{toZ-ofZ}
 use mir.Syntax.{w32}
 use Rattle.fraction.specs.Limits.{limit}
 use Rattle.arithmetic.proofs.Operations.{good-num, good-den, negated-is}
-use Rattle.integer.proofs.Words.{kept}
+use Rattle.whole.proofs.Words.{kept}
 use Rattle.arithmetic.proofs.negated.Statement.{statement}
 use Rattle.arithmetic.proofs.negated.Tie as tie
 

@@ -11,7 +11,7 @@ use lib.IntN.{ℤ, pos}
 use mir.Syntax.{w32}
 use borrow.Author.Tests.{not-true, not-false}
 use borrow.Author.Needs.{needs}
-use Rattle.integer.proofs.Words.{kept}
+use Rattle.whole.proofs.Words.{kept}
 use Rattle.run.specs.Row.{TERMS, COLUMNS}
 use Rattle.outcome.specs.Outcome.{PLACES}
 use Rattle.listing.specs.Listing.{isFraction, allFractions, placesOf}

@@ -7,7 +7,7 @@ use native.Mathlib.Omega.{arith}
 use lib.ListN.{length}
 use mir.Syntax.{w32}
 use borrow.Author.Needs.{needs}
-use Rattle.integer.proofs.Words.{kept}
+use Rattle.whole.proofs.Words.{kept}
 use Rattle.run.specs.Row.{TERMS, COLUMNS}
 use Rattle.outcome.specs.Outcome.{PLACES}
 use Rattle.listing.specs.Line.{pieces}

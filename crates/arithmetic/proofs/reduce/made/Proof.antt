@@ -4,7 +4,7 @@ use mathlib.Core.Path.{_∙_}
 use borrow.Author.Needs.{needs}
 use mir.Facts.{toZ-ofZ}
 use mir.Syntax.{w32}
-use Rattle.integer.proofs.Words.{kept}
+use Rattle.whole.proofs.Words.{kept}
 use Rattle.arithmetic.proofs.reduce.made.Statement.{statement}
 use Rattle.arithmetic.proofs.reduce.made.Tie as tie
 

@@ -4,7 +4,7 @@ use mathlib.Core.Path.{ap, _∙_}
 use lib.IntN.{pos}
 use lib.Signed.{ltZ}
 use mir.Facts.{toZ-ofZ}
-use Rattle.integer.proofs.Words.{below-zero}
+use Rattle.whole.proofs.Words.{below-zero}
 use Rattle.integer.proofs.signed.negative.Statement.{statement}
 use Rattle.integer.proofs.signed.negative.Tie as tie
 

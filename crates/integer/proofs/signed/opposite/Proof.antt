@@ -3,7 +3,7 @@
 use mathlib.Core.Path.{_∙_}
 use mir.Facts.{toZ-ofZ}
 use mir.Syntax.{w32}
-use Rattle.integer.proofs.Words.{fits-opposite, opposite-is}
+use Rattle.whole.proofs.Words.{fits-opposite, opposite-is}
 use Rattle.integer.proofs.signed.opposite.Statement.{statement}
 use Rattle.integer.proofs.signed.opposite.Tie as tie
 

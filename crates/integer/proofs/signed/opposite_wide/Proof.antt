@@ -3,7 +3,7 @@
 use mathlib.Core.Path.{_∙_}
 use mir.Facts.{toZ-ofZ}
 use mir.Syntax.{w64}
-use Rattle.integer.proofs.Words.{fits-opposite, opposite-is}
+use Rattle.whole.proofs.Words.{fits-opposite, opposite-is}
 use Rattle.integer.proofs.signed.opposite_wide.Statement.{statement}
 use Rattle.integer.proofs.signed.opposite_wide.Tie as tie
 

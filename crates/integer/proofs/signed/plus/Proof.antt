@@ -1,7 +1,7 @@
 -- `arithmetic::signed::plus` meets its contract: the size of a sum is at most the sum of the sizes.
 -- Assumes nothing.
 use mir.Facts.{toZ-ofZ}
-use Rattle.integer.proofs.Words.{fits-sum}
+use Rattle.whole.proofs.Words.{fits-sum}
 use Rattle.integer.proofs.signed.plus.Statement.{statement}
 use Rattle.integer.proofs.signed.plus.Tie as tie
 

@@ -6,7 +6,7 @@ use lib.IntN.{pos}
 use borrow.Author.Needs.{needs}
 use mir.Facts.{toZ-ofZ, toZ-pos}
 use mir.Syntax.{w32}
-use Rattle.integer.proofs.Words.{fits-opposite, opposite-is, signed-below, signed-upward}
+use Rattle.whole.proofs.Words.{fits-opposite, opposite-is, signed-below, signed-upward}
 use Rattle.integer.proofs.signed.put_back.Statement.{statement}
 use Rattle.integer.proofs.signed.put_back.Tie as tie
 

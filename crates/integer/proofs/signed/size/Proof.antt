@@ -7,7 +7,7 @@ use borrow.Author.Needs.{needs}
 use mir.Facts.{toZ-ofZ, sfits-widen}
 use mir.Syntax.{w64}
 use mir.Val.{toZ, ofZ}
-use Rattle.integer.proofs.Words.{read-back, size-word}
+use Rattle.whole.proofs.Words.{read-back, size-word}
 use Rattle.integer.proofs.signed.size.Statement.{statement}
 use Rattle.integer.proofs.signed.size.Tie as tie
 

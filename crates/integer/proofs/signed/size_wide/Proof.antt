@@ -8,7 +8,7 @@ use mir.Facts.{toZ-ofZ}
 use mir.Syntax.{w64}
 use mir.Val.{toZ, ofZ}
 use Rattle.whole.proofs.Sizes.{size-negated}
-use Rattle.integer.proofs.Words.{read-back, fits-size, size-upward, size-opposite}
+use Rattle.whole.proofs.Words.{read-back, fits-size, size-upward, size-opposite}
 use Rattle.integer.proofs.signed.size_wide.Statement.{statement}
 use Rattle.integer.proofs.signed.size_wide.Tie as tie
 

@@ -3,7 +3,7 @@
 use mathlib.Core.Path.{_∙_, refl}
 use borrow.Author.Needs.{needs}
 use mir.Facts.{toZ-ofZ, sfits-widen}
-use Rattle.integer.proofs.Words.{fits-product, read-back, product-within}
+use Rattle.whole.proofs.Words.{fits-product, read-back, product-within}
 use Rattle.integer.proofs.signed.times.Statement.{statement}
 use Rattle.integer.proofs.signed.times.Tie as tie
 

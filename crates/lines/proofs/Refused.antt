@@ -15,8 +15,8 @@ use Rattle.outcome.specs.Outcome.{PLACES}
 use Rattle.listing.specs.Line.{firstLine, rowLine}
 use Rattle.listing.specs.Listing.{allFractions, placesOf, listRow}
 use Rattle.text.specs.Wrote.{Wrote}
-use Rattle.pieces.specs.Listable.{Listable, rowHeld}
-use Rattle.pieces.proofs.Fractions.{and-false}
+use Rattle.places.specs.Listable.{Listable, rowHeld}
+use Rattle.places.proofs.Fractions.{and-false}
 use Rattle.lines.specs.declared.Reached.the-variants.{At, Refused}
 use Rattle.lines.specs.Leaves.{reachedOf, leaves, listFirst}
 

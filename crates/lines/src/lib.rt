@@ -2,8 +2,8 @@
 use answer::Answer;
 use answer::ROW;
 use answer::SPACE;
-use pieces::all_fractions;
 use pieces::put_pieces;
+use places::all_fractions;
 use problem::PLACES;
 use problem::TERMS;
 use text::put_byte;
@@ -19,7 +19,7 @@ ghost use Rattle.listing.specs.Text.{ascii, decimal};
 ghost use Rattle.listing.specs.Line.{firstLine, pieces, orZero, rowLine};
 ghost use Rattle.listing.specs.Listing.{listRow};
 ghost use Rattle.text.specs.Wrote.{Wrote};
-ghost use Rattle.pieces.specs.Listable.{Listable, rowHeld};
+ghost use Rattle.places.specs.Listable.{Listable, rowHeld};
 ghost use Rattle.lines.specs.Leaves.{leaves, listFirst};
 
 // 01, The listing: the bytes that have to follow the place reached.

@@ -9,7 +9,7 @@ use lib.Signed.{leZ}
 use Rattle.fraction.specs.declared.Fraction.{Fraction}
 use Rattle.arithmetic.specs.Values.{Good}
 use Rattle.listing.specs.Listing.{isFraction}
-use Rattle.pieces.proofs.Fractions.{and-true, fraction-is}
+use Rattle.places.proofs.Fractions.{and-true, fraction-is}
 
 upward-den : (den : ℤ) → leZ (pos 1) den ≡ true → den ≡ pos (natAbs den)
 upward-den (pos n) h = refl

@@ -65,7 +65,7 @@ const DENS: [i32; 24] = [
 fn is_good(f: Fraction) -> bool
     ensures { λ r. ⌜ (r ≡ true → Good f) ⌝ }
 {
-    pieces::is_fraction(f.num, f.den)
+    places::is_fraction(f.num, f.den)
 }
 
 fn show_fraction(f: Fraction) {

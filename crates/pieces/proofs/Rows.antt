@@ -12,9 +12,9 @@ use Rattle.fraction.specs.Limits.{within}
 use Rattle.run.specs.Row.{TERMS, COLUMNS, column}
 use Rattle.listing.specs.Line.{piece, pieces}
 use Rattle.listing.specs.Listing.{isFraction, placesOf}
-use Rattle.pieces.specs.Listable.{Listable, rowHeld}
-use Rattle.pieces.proofs.Fractions.{fraction-is}
-use Rattle.pieces.proofs.Places.{places-length, places-at, held-column, all-at}
+use Rattle.places.specs.Listable.{Listable, rowHeld}
+use Rattle.places.proofs.Fractions.{fraction-is}
+use Rattle.places.proofs.Places.{places-length, places-at, held-column, all-at}
 use Rattle.pieces.proofs.Texts.{shown-within, piece-length, pieces-length}
 
 module _ (t : ℕ) (nums dens : List ℤ) (listable : Listable t nums dens) where

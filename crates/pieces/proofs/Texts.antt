@@ -20,8 +20,8 @@ use Rattle.run.specs.Row.{Row, TERMS, constant, column}
 use Rattle.listing.specs.Text.{ascii, decimal}
 use Rattle.listing.specs.Line.{signOf, fractionText, termText, piece, pieces}
 use Rattle.text.proofs.Decimal.{decimal-length}
-use Rattle.pieces.specs.Listable.{overText}
-use Rattle.pieces.proofs.Fractions.{and-true, Shown}
+use Rattle.pieces.specs.Over.{overText}
+use Rattle.places.proofs.Fractions.{and-true, Shown}
 
 -- A whole number has no denominator; any other has a slash and its denominator.
 pub over-one : (top bottom : ℕ) → bottom ≡ 1 → overText top bottom ≡ decimal top

@@ -1,1 +1,1 @@
-pub mod Listable
+pub mod Over

@@ -1,5 +1,4 @@
-// The pieces of a row's line: the test of its places, and their texts.
-use euclid::greatest;
+// The pieces of a row's line.
 use integer::signed::size;
 use problem::COLUMNS;
 use problem::TERMS;
@@ -8,51 +7,19 @@ use text::put_decimal;
 ghost use mathlib.Core.Path.{_≡_};
 ghost use mathlib.Core.Bool.{true};
 ghost use mathlib.Core.List.{[], _∷_};
-ghost use Prim.Native.Nat.{_+_, _<_, _≤_};
+ghost use Prim.Native.Nat.{_+_, _≤_};
 ghost use lib.ListN.{length};
 ghost use lib.IntN.{natAbs};
 ghost use Rattle.fraction.specs.Exact.{frac};
 ghost use Rattle.run.specs.Row.{COLUMNS};
 ghost use Rattle.listing.specs.Line.{signOf, termText, piece, pieces};
-ghost use Rattle.listing.specs.Listing.{isFraction, allFractions, placesOf};
+ghost use Rattle.listing.specs.Listing.{isFraction};
 ghost use Rattle.text.specs.Wrote.{Wrote};
-ghost use Rattle.pieces.specs.Listable.{Long, Listable, rowHeld, overText};
-
-// 01, The run: the largest numerator and denominator.
-const LIMIT: u64 = 2147483647;
+ghost use Rattle.places.specs.Listable.{Listable, rowHeld};
+ghost use Rattle.pieces.specs.Over.{overText};
 
 // 01, The run: the column of the constant.
 const CONSTANT: usize = TERMS;
-
-// 01, The listing: "a fraction in lowest terms within the limits". A denominator above 0 is within them.
-pub fn is_fraction(num: i32, den: i32) -> bool
-    ensures { λ r. ⌜ r ≡ isFraction num den ⌝ }
-{
-    if den < 1 {
-        return false;
-    }
-    let top = size(num);
-    if LIMIT < top {
-        return false;
-    }
-    greatest(top, size(den)) == 1
-}
-
-// Whether all places of row t hold such fractions.
-pub fn all_fractions(nums: &[i32], dens: &[i32], t: usize) -> bool
-    requires { ⌜ Long t (now nums) (now dens) ⌝ }
-    ensures { λ r. ⌜ r ≡ allFractions (placesOf t (now (nums .entry))) (placesOf t (now (dens .entry))) ⌝ }
-{
-    let first = COLUMNS * t;
-    let mut c = 0;
-    while c < COLUMNS {
-        if !is_fraction(nums[first + c], dens[first + c]) {
-            return false;
-        }
-        c += 1;
-    }
-    true
-}
 
 fn sign(num: i32) -> u8
     ensures { λ r. ⌜ r ∷ [] ≡ signOf num ⌝ }

@@ -6,7 +6,7 @@ use borrow.Author.Tests.{leb-true, leb-false, not-true, not-false}
 use borrow.Author.Needs.{needs}
 use Rattle.run.specs.Row.{TERMS}
 use Rattle.outcome.specs.Outcome.{PLACES}
-use Rattle.pieces.specs.Listable.{Long, Listable}
+use Rattle.places.specs.Listable.{Long, Listable}
 use Rattle.lines.proofs.Refused.{refused-room, refused-nums, refused-dens, refused-term, refused-places, row-listed}
 use Rattle.lines.proofs.list_row_at.Statement.{statement}
 use Rattle.lines.proofs.list_row_at.Tie as tie

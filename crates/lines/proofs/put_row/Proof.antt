@@ -9,7 +9,7 @@ use Rattle.listing.specs.Text.{ascii, decimal}
 use Rattle.listing.specs.Line.{pieces, orZero, rowLine}
 use Rattle.text.proofs.Decimal.{decimal-length}
 use Rattle.text.proofs.Placing.{Put, put-then}
-use Rattle.pieces.specs.Listable.{rowHeld}
+use Rattle.places.specs.Listable.{rowHeld}
 use Rattle.pieces.proofs.Rows.{row-within}
 use Rattle.lines.proofs.Lines.{row-line-length}
 use Rattle.lines.proofs.put_row.Statement.{statement}

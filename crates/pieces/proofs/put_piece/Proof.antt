@@ -11,8 +11,8 @@ use Rattle.fraction.specs.Exact.{frac}
 use Rattle.listing.specs.Text.{ascii}
 use Rattle.listing.specs.Line.{signOf, termText, piece}
 use Rattle.text.proofs.Placing.{wrote-nothing, Put, put-then}
-use Rattle.pieces.specs.Listable.{overText}
-use Rattle.pieces.proofs.Fractions.{Shown, fraction-is}
+use Rattle.pieces.specs.Over.{overText}
+use Rattle.places.proofs.Fractions.{Shown, fraction-is}
 use Rattle.pieces.proofs.Texts.{piece-of-zero, piece-of-parts, sign-length}
 use Rattle.pieces.proofs.put_piece.Statement.{statement}
 use Rattle.pieces.proofs.put_piece.Tie as tie

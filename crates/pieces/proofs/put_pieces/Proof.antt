@@ -13,7 +13,7 @@ use Rattle.outcome.specs.Outcome.{PLACES}
 use Rattle.listing.specs.Line.{pieces}
 use Rattle.text.specs.Wrote.{Wrote}
 use Rattle.text.proofs.Placing.{wrote-nothing, wrote-then}
-use Rattle.pieces.specs.Listable.{rowHeld}
+use Rattle.places.specs.Listable.{rowHeld}
 use Rattle.pieces.proofs.Rows.{row-sound, row-pieces-step, row-piece-length, row-pieces-length}
 use Rattle.pieces.proofs.put_pieces.Statement.{statement}
 use Rattle.pieces.proofs.put_pieces.Tie as tie

@@ -1,15 +1,13 @@
--- Rows that can be listed, and the text of a fraction by its two sizes.
--- Main definitions: `Long`, `Listable`, `rowHeld`, `overText`. Assumes nothing.
+-- Rows that can be listed.
+-- Main definitions: `Long`, `Listable`, `rowHeld`. Assumes nothing.
 use mathlib.Core.Path.{_≡_}
-use mathlib.Core.Bool.{true, cond}
-use mathlib.Core.List.{List, [], _++_}
+use mathlib.Core.Bool.{true}
+use mathlib.Core.List.{List}
 use Prim.Native.Nat.{ℕ, _≤_, _<_}
 use lib.ListN.{length}
-use lib.Dec.{eqb}
 use lib.IntN.{ℤ}
 use Rattle.run.specs.Row.{Row, TERMS}
 use Rattle.outcome.specs.Outcome.{PLACES}
-use Rattle.listing.specs.Text.{ascii, decimal}
 use Rattle.listing.specs.Listing.{allFractions, placesOf, heldRow}
 
 -- both lists hold row t
@@ -26,7 +24,3 @@ pub record Listable (t : ℕ) (nums dens : List ℤ) : Type 0 where
 -- the row that the lists hold for term t
 abbrev pub rowHeld : (t : ℕ) → (nums dens : List ℤ) → Row
 rowHeld t nums dens = heldRow (placesOf t nums) (placesOf t dens)
-
--- "the fraction (no denominator if 1)", of its two sizes
-unfoldable pub overText : (top bottom : ℕ) → List ℕ
-overText top bottom = decimal top ++ cond (eqb bottom 1) [] (ascii "/" ++ decimal bottom)

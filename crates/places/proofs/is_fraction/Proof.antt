@@ -1,4 +1,4 @@
--- `pieces::is_fraction` meets its contract. Assumes nothing.
+-- `places::is_fraction` meets its contract. Assumes nothing.
 use mathlib.Core.Path.{_≡_, sym, ap, ap₂, _∙_}
 use native.Mathlib.Omega.{arith}
 use lib.Dec.{eqb}
@@ -7,9 +7,9 @@ use mir.Facts.{toZ-ofZ}
 use borrow.Author.Needs.{needs}
 use Rattle.whole.specs.Gcd.{gcd}
 use Rattle.fraction.specs.Limits.{limit}
-use Rattle.pieces.proofs.Fractions.{fraction-not-low, fraction-not-wide, fraction-by-gcd}
-use Rattle.pieces.proofs.is_fraction.Statement.{statement}
-use Rattle.pieces.proofs.is_fraction.Tie as tie
+use Rattle.places.proofs.Fractions.{fraction-not-low, fraction-not-wide, fraction-by-gcd}
+use Rattle.places.proofs.is_fraction.Statement.{statement}
+use Rattle.places.proofs.is_fraction.Tie as tie
 
 returns : tie.Need-returns
 returns c = let start = c .before in sym (fraction-not-low (start .args .num) _ (rw (toZ-ofZ (start .fits .den)) at (c .if1 .taken)))

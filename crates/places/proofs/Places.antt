@@ -12,7 +12,7 @@ use Rattle.fraction.specs.Exact.{frac}
 use Rattle.run.specs.Row.{TERMS, COLUMNS, column}
 use Rattle.outcome.specs.Outcome.{PLACES}
 use Rattle.listing.specs.Listing.{isFraction, allFractions, placesOf, heldRow}
-use Rattle.pieces.proofs.Fractions.{and-true}
+use Rattle.places.proofs.Fractions.{and-true}
 
 -- A list of 4,160 places holds all columns of each row.
 pub places-length : (t : ℕ) (list : List ℤ) → t < TERMS → PLACES ≤ length list → length (placesOf t list) ≡ COLUMNS

@@ -1,4 +1,4 @@
--- `pieces::all_fractions` meets its contract. The loop's invariant: the test of the places from c on says what the test of all says.
+-- `places::all_fractions` meets its contract. The loop's invariant: the test of the places from c on says what the test of all says.
 -- Assumes nothing.
 use mathlib.Core.Path.{_≡_, sym, refl, ap, ap₂, _∙_}
 use mathlib.Core.Bool.{_&&_}
@@ -15,9 +15,9 @@ use Rattle.whole.proofs.Words.{kept}
 use Rattle.run.specs.Row.{TERMS, COLUMNS}
 use Rattle.outcome.specs.Outcome.{PLACES}
 use Rattle.listing.specs.Listing.{isFraction, allFractions, placesOf}
-use Rattle.pieces.proofs.Places.{places-length, places-at, all-step, all-end}
-use Rattle.pieces.proofs.all_fractions.Statement.{statement}
-use Rattle.pieces.proofs.all_fractions.Tie as tie
+use Rattle.places.proofs.Places.{places-length, places-at, all-step, all-end}
+use Rattle.places.proofs.all_fractions.Statement.{statement}
+use Rattle.places.proofs.all_fractions.Tie as tie
 
 abbrev Inv-loop : tie.InvT-loop
 Inv-loop nums dens t first c₀ c = (c ≤ 65) × (allFractions (drop c (placesOf t nums)) (drop c (placesOf t dens)) ≡ allFractions (placesOf t nums) (placesOf t dens))

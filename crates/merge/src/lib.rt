@@ -1,7 +1,7 @@
 // Merging two terms: the difference of their rows, the unknown that it solves, and the fold into every row.
+use pivot::Found;
 use problem::COLUMNS;
 use problem::TERMS;
-use solve::Found;
 use table::Step;
 ghost use mathlib.Core.Path.{_≡_};
 ghost use Prim.Native.Nat.{ℕ, _*_, _<_, _≤_};
@@ -79,7 +79,7 @@ fn settle(
     ensures { λ r. ⌜ SoundTo (65 * n) (now (nums .exit)) (now (dens .exit)) ⌝ }
     ensures { λ r. ⌜ Unstopped r (Sparse n (now (nums .exit)) (now (sets .exit)) × Stirred n (now (nums .entry)) (now (dens .entry)) (now (nums .exit)) (now (dens .exit)) (now (sets .entry)) (now (sets .exit))) ⌝ }
 {
-    match solve::pivot(d_nums, d_dens, set) {
+    match pivot::pivot(d_nums, d_dens, set) {
         Found::At(p) => solve(nums, dens, n, p, set, d_nums, d_dens, sets),
         Found::Nothing => {
             let constant = table::get(d_nums, d_dens, TERMS);
@@ -111,7 +111,7 @@ pub fn merge(
     let set = bits::union(sets[t], sets[u]);
     let mut d_nums = [0i32; COLUMNS];
     let mut d_dens = [1i32; COLUMNS];
-    match solve::difference(
+    match difference::difference(
         nums,
         dens,
         COLUMNS * t,

@@ -1,4 +1,3 @@
-pub mod Chain
 pub mod Judging
 pub mod Mantissa
 pub mod Unique

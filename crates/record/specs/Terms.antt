@@ -1,25 +1,14 @@
 -- What reading a term record answers.
 -- Main definition: `termRead`. Assumes nothing.
-use mathlib.Core.Path.{_≡_}
 use mathlib.Core.Bool.{Bool, _&&_, cond}
 use mathlib.Core.List.{List, [], _∷_}
 use mathlib.Core.Option.{Option, some, none}
-use Prim.Native.Nat.{ℕ, _+_, _*_, _<_}
+use Prim.Native.Nat.{ℕ, _+_, _*_}
 use lib.Dec.{eqb, ltb}
 use Rattle.problem.specs.declared.Kind.{Kind}
-use Rattle.problem.specs.Record.{Fields, fieldsAt, every, kindOf}
-use Rattle.record.specs.declared.fields.Fields as held
+use Rattle.problem.specs.Record.{fieldsAt, every, kindOf}
 use Rattle.record.specs.declared.TermRead.{TermRead}
 use Rattle.record.specs.declared.TermRead.the-variants.{Sound, Faulty}
-
--- the fields that the code holds, as the rule has them
-unfoldable pub told : held.Fields → Fields
-told f = record { kind = f .kind; symbol = f .symbol; input1 = f .input1; input2 = f .input2; input3 = f .input3; mantissa = f .mantissa; shift = f .shift; padding = f .padding }
-
--- the fields of the record that begins with byte `first`
-pub record FieldsRead (bytes : List ℕ) (first : ℕ) (f : held.Fields) : Type 0 where
-  pub same : told f ≡ fieldsAt bytes (8 * first)
-  pub small : f .shift < 16
 
 unfoldable pub zeros : List ℕ → Bool
 zeros = every (λ x. eqb x 0)

@@ -1,6 +1,4 @@
 // The term that a record holds, or that the record is faulty.
-mod fields;
-
 use fields::Fields;
 use fields::read_fields;
 use fraction::Fraction;
@@ -13,7 +11,8 @@ ghost use lib.ListN.{length};
 ghost use lib.IntN.{pos};
 ghost use Rattle.problem.specs.Bits.{signed16};
 ghost use Rattle.problem.specs.Record.{scaled, kindOf};
-ghost use Rattle.record.specs.Terms.{told, zeros, below, judged, checkedAs, termRead};
+ghost use Rattle.fields.specs.Told.{told};
+ghost use Rattle.record.specs.Terms.{zeros, below, judged, checkedAs, termRead};
 
 pub enum TermRead {
     Sound(Term),

@@ -1,24 +1,19 @@
--- One column of a difference and of a solved form: what the rule makes of it.
--- Main results: `solved-column`, `cell-solved`, `cell-other`, `cell-nothing`, `differs-nothing`. Assume nothing.
-use mathlib.Core.Path.{_≡_, refl, sym, ap, _∙_}
+-- One column of a solved form: what the rule makes of it.
+-- Main results: `solved-column`, `cell-solved`, `cell-other`, `cell-nothing`. Assume nothing.
+use mathlib.Core.Path.{_≡_, refl, ap, _∙_}
 use mathlib.Core.Bool.{Bool, true, false, cond}
 use Prim.Native.Nat.{ℕ}
 use borrow.Author.Tests.{eq-eqb, ne-eqb}
 use lib.Dec.{eqb}
 use Rattle.fraction.specs.Exact.{ℚ, zeroℚ, negℚ, inverse}
-use Rattle.fraction.specs.Limits.{tested, minus, times}
+use Rattle.fraction.specs.Limits.{tested, times}
 use Rattle.fraction.specs.Made.{made}
-use Rattle.fraction.proofs.Field.{minus-is-plus, plus-inverse, times-zero}
+use Rattle.fraction.proofs.Field.{times-zero}
 use Rattle.arithmetic.proofs.Divided.{divided-negated}
 use Rattle.arithmetic.proofs.Tests.{zero-passes}
 use Rattle.run.specs.Row.{Row, column}
 use Rattle.run.specs.Merge.{solvedColumn}
 use Rattle.solve.specs.Cell.{solvedCell}
-
--- 0 minus 0 is 0.
-pub differs-nothing : minus zeroℚ zeroℚ ≡ made zeroℚ
-unfolding minus
-differs-nothing = ap tested (sym (minus-is-plus zeroℚ zeroℚ) ∙ plus-inverse zeroℚ) ∙ zero-passes
 
 -- Column c of the rule's form is the cell of the two numbers that it reads: to divide and to negate is to multiply by one factor.
 pub solved-column : (p : ℕ) (d : Row) (c : ℕ) → solvedColumn p d c ≡ solvedCell c p (negℚ (inverse (column d p))) (column d c)

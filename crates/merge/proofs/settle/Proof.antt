@@ -11,7 +11,7 @@ use Rattle.run.specs.Row.{TERMS, constant, column}
 use Rattle.table.specs.Held.{rowAt, tableAt}
 use Rattle.table.proofs.Columns.{column-first, kept-itself}
 use Rattle.table.proofs.Sparse.{stirred-itself}
-use Rattle.solve.specs.Pivoted.{pivoted, FoundIn}
+use Rattle.pivot.specs.Pivoted.{pivoted, FoundIn}
 use Rattle.merge.specs.Outcome.{Unstopped}
 use Rattle.merge.proofs.Steps.{settles-nothing, settles-contradiction, settles-solved}
 use borrow.Author.Needs.{needs}

@@ -1,5 +1,6 @@
 use borrow.Author.Needs.{needs}
-use Rattle.record.specs.Terms.{told, judged}
+use Rattle.fields.specs.Told.{told}
+use Rattle.record.specs.Terms.{judged}
 use Rattle.record.proofs.Judging.{other-kinds}
 use Rattle.record.proofs.by_kind.Statement.{statement}
 use Rattle.record.proofs.by_kind.Tie as tie

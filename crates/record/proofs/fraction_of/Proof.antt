@@ -2,7 +2,7 @@ use borrow.Author.Needs.{needs}
 use mir.Syntax.{w32}
 use mir.Facts.{toZ-ofZ}
 use Rattle.problem.specs.Record.{scaled}
-use Rattle.record.specs.Terms.{told}
+use Rattle.fields.specs.Told.{told}
 use Rattle.record.proofs.fraction_of.Statement.{statement}
 use Rattle.record.proofs.fraction_of.Tie as tie
 use Rattle.record.proofs.fraction_of.Reads as reads

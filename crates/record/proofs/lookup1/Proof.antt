@@ -1,7 +1,8 @@
 use borrow.Author.Needs.{needs}
 use mathlib.Core.Path.{_∙_}
 use Rattle.problem.specs.Record.{every, unless-faulty, kindOf}
-use Rattle.record.specs.Terms.{told, zeros, below, checkedAs}
+use Rattle.fields.specs.Told.{told}
+use Rattle.record.specs.Terms.{zeros, below, checkedAs}
 use Rattle.record.proofs.lookup1.Statement.{statement}
 use Rattle.record.proofs.lookup1.Tie as tie
 use Rattle.record.proofs.lookup1.Reads as reads

@@ -7,7 +7,7 @@ use Rattle.record.proofs.read_term.Statement.{statement}
 use Rattle.record.proofs.read_term.Tie as tie
 use Rattle.record.proofs.read_term.Reads as reads
 use Rattle.record.proofs.read_term.Lts as lts
-use Rattle.record.proofs.fields.read_fields.Reads as read-fields-reads
+use Rattle.fields.proofs.read_fields.Reads as read-fields-reads
 use Rattle.record.proofs.by_kind.Reads as by-kind-reads
 
 -- src/term.rt:234:37

@@ -17,7 +17,7 @@ use Rattle.run.specs.Merge.{higher, pivot}
 use Rattle.run.specs.Run.{byNumber}
 use Rattle.table.specs.Held.{rowAt, SoundTo}
 use Rattle.table.specs.Sparse.{Within}
-use Rattle.solve.proofs.Columns.{column-nothing}
+use Rattle.difference.proofs.Columns.{column-nothing}
 
 -- a column above all that were found is the higher one
 higher-taken : (c : ℕ) (found : Option ℕ) → ((p : ℕ) → found ≡ some p → p < c) → higher byNumber c found ≡ some c

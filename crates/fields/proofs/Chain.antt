@@ -9,7 +9,7 @@ use Rattle.problem.specs.Record.{fieldsAt}
 use Rattle.cursor.specs.declared.Piece.{Piece}
 use Rattle.cursor.specs.Taken.{numberAt, Cut}
 use Rattle.cursor.proofs.Bits.{cut-field}
-use Rattle.record.specs.Terms.{told, FieldsRead}
+use Rattle.fields.specs.Told.{told, FieldsRead}
 
 -- Eight pieces in a chain are the fields of the record.
 pub fields-cut : (bytes : List ℕ) (first : ℕ) → ((i : ℕ) → getD bytes i 0 < 256) → {bits : ℕ} {kind symbol input1 input2 input3 mantissa shift padding : Piece} → bits ≡ numberAt bytes first 8 → Cut bits 0 4 kind → Cut bits (kind .next .at) 8 symbol → Cut bits (symbol .next .at) 8 input1 → Cut bits (input1 .next .at) 8 input2 → Cut bits (input2 .next .at) 8 input3 → Cut bits (input3 .next .at) 16 mantissa → Cut bits (mantissa .next .at) 4 shift → Cut bits (shift .next .at) 8 padding → FieldsRead bytes first (record { kind = kind .value; symbol = symbol .value; input1 = input1 .value; input2 = input2 .value; input3 = input3 .value; mantissa = mantissa .value; shift = shift .value; padding = padding .value })

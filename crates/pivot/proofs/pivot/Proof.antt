@@ -1,4 +1,4 @@
--- `solve::pivot` meets its contract. The loop's invariant: the columns not yet passed give the same unknown as all, and the last of them
+-- `pivot::pivot` meets its contract. The loop's invariant: the columns not yet passed give the same unknown as all, and the last of them
 -- is in the set. Assumes nothing.
 use mathlib.Core.Path.{_≡_, sym, ap, _∙_, subst}
 use mathlib.Core.Bool.{true}
@@ -14,11 +14,11 @@ use Rattle.run.specs.Merge.{pivot}
 use Rattle.run.specs.Run.{byNumber}
 use Rattle.table.specs.Held.{rowAt}
 use Rattle.table.proofs.Columns.{column-first}
-use Rattle.solve.specs.Pivoted.{pivoted, FoundIn}
-use Rattle.solve.proofs.Pivots.{pivot-found, pivot-passes, pivot-nothing, last-skips}
+use Rattle.pivot.specs.Pivoted.{pivoted, FoundIn}
+use Rattle.pivot.proofs.Pivots.{pivot-found, pivot-passes, pivot-nothing, last-skips}
 use borrow.Author.Needs.{needs}
-use Rattle.solve.proofs.pivot.Statement.{statement}
-use Rattle.solve.proofs.pivot.Tie as tie
+use Rattle.pivot.proofs.pivot.Statement.{statement}
+use Rattle.pivot.proofs.pivot.Tie as tie
 
 abbrev Inv-loop : tie.InvT-loop
 Inv-loop d-nums d-dens set end₀ end =

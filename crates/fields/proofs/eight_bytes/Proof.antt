@@ -5,10 +5,10 @@ use native.Mathlib.Nat.{pow-suc, pow-le-pow-right, lt-of-lt-of-le}
 use native.Mathlib.Omega.{arith}
 use lib.Arith.{digits-lt}
 use Rattle.cursor.specs.Taken.{numberAt}
-use Rattle.record.proofs.fields.eight_bytes.Statement.{statement}
-use Rattle.record.proofs.fields.eight_bytes.Tie as tie
-use Rattle.record.proofs.fields.eight_bytes.Reads as reads
-use Rattle.record.proofs.fields.eight_bytes.Lts as lts
+use Rattle.fields.proofs.eight_bytes.Statement.{statement}
+use Rattle.fields.proofs.eight_bytes.Tie as tie
+use Rattle.fields.proofs.eight_bytes.Reads as reads
+use Rattle.fields.proofs.eight_bytes.Lts as lts
 
 abbrev Inv-loop : tie.InvT-loop
 Inv-loop bytes first number₀ count₀ number count = (count ≤ 8) × (number ≡ numberAt bytes first count) × (number < 256 ^ count)
@@ -20,47 +20,38 @@ abbrev μ-loop : tie.MeasureT-loop
 room : (number count : ℕ) → number < 256 ^ count → count < 8 → number < 256 ^ 7
 room number count h few = lt-of-lt-of-le h (pow-le-pow-right (omega arith) {j = 7} (omega arith))
 
--- src/fields.rt:28:5
 loop-holds : tie.Need-loop-holds Inv-loop μ-loop
 unfolding numberAt
 loop-holds c = (omega arith, refl, omega arith)
 
--- src/fields.rt:29:18
 mul-number : tie.Need-mul-number Inv-loop μ-loop
 mul-number c =
     let l = c .before .loop in
     omega (arith, room (l .number) (l .count) (l .inv .2) (c .loop-test .taken))
 
--- src/fields.rt:29:39
 add-number : tie.Need-add-number Inv-loop μ-loop
 add-number c = search needs
 
--- src/fields.rt:29:33
 shared-slice-read-number : tie.Need-shared-slice-read-number Inv-loop μ-loop
 shared-slice-read-number c = search needs
 
--- src/fields.rt:29:33
 cast-number : tie.Need-cast-number Inv-loop μ-loop
 cast-number c =
     let s = c .before .before .before .args in
     omega (arith, c .shared-slice-known .given (s .first + c .before .before .loop .count))
 
--- src/fields.rt:29:18
 add-number-2 : tie.Need-add-number-2 Inv-loop μ-loop
 add-number-2 c =
     let s = c .before .before .before .args in
     let l = c .before .before .loop in
     omega (arith, room (l .number) (l .count) (l .inv .2) (c .before .loop-test .taken), c .shared-slice-known .given (s .first + l .count))
 
--- src/fields.rt:30:9
 add-count : tie.Need-add-count Inv-loop μ-loop
 add-count c = search needs
 
--- src/fields.rt:28:5
 loop-less : tie.Need-loop-less Inv-loop μ-loop
 loop-less c = search needs
 
--- src/fields.rt:28:5
 loop-again : tie.Need-loop-again Inv-loop μ-loop
 unfolding numberAt
 loop-again c =
@@ -69,7 +60,6 @@ loop-again c =
     let more : l .count + 1 ≡ suc (l .count) = omega arith in
     (omega arith, rw (more, l .inv .1), rw (more, pow-suc) (digits-lt (l .inv .2) (c .shared-slice-known .given (s .first + l .count) .fits)))
 
--- src/fields.rt:22:1
 returns : tie.Need-returns Inv-loop μ-loop
 returns c =
     let l = c .before .loop in

@@ -4,7 +4,7 @@ ghost use mathlib.Core.Path.{_≡_};
 ghost use Prim.Native.Nat.{_+_, _≤_};
 ghost use lib.ListN.{length};
 ghost use Rattle.cursor.specs.Taken.{numberAt};
-ghost use Rattle.record.specs.Terms.{FieldsRead};
+ghost use Rattle.fields.specs.Told.{FieldsRead};
 
 // The fields as the record has them; a shift has 4 bits.
 pub struct Fields {
@@ -33,7 +33,7 @@ fn eight_bytes(bytes: &[u8], first: usize) -> u64
 }
 
 // The record from byte `first` on: its eight bytes are read once, and the cursor cuts the fields from them.
-pub(crate) fn read_fields(bytes: &[u8], first: usize) -> Fields
+pub fn read_fields(bytes: &[u8], first: usize) -> Fields
     requires { ⌜ (first ≤ 512) × (first + 8 ≤ length (now bytes)) ⌝ }
     ensures { λ r. ⌜ FieldsRead (now (bytes .entry)) first r ⌝ }
 {

@@ -1,4 +1,4 @@
--- `solve::difference` meets its contract. The loop's invariant: the columns passed are those of the rule, and all that is written lies
+-- `difference::difference` meets its contract. The loop's invariant: the columns passed are those of the rule, and all that is written lies
 -- within the set. Assumes nothing.
 use mathlib.Core.Path.{sym, subst}
 use Prim.Native.Nat.{_-_, _≤_}
@@ -15,10 +15,10 @@ use Rattle.table.specs.Sparse.{Within}
 use Rattle.table.proofs.Rows.{making-starts}
 use Rattle.table.proofs.Sparse.{within-more, within-stores}
 use Rattle.table.proofs.Turns.{turn-stores, turn-stops, turns-end}
-use Rattle.solve.proofs.Columns.{column-differs, difference-skips}
+use Rattle.difference.proofs.Columns.{column-differs, difference-skips}
 use borrow.Author.Needs.{needs}
-use Rattle.solve.proofs.difference.Statement.{statement}
-use Rattle.solve.proofs.difference.Tie as tie
+use Rattle.difference.proofs.difference.Statement.{statement}
+use Rattle.difference.proofs.difference.Tie as tie
 
 abbrev Inv-loop : tie.InvT-loop
 Inv-loop nums dens left right set d-nums₀ d-dens₀ c₀ d-nums d-dens c =

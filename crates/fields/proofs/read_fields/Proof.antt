@@ -2,83 +2,65 @@ use borrow.Author.Needs.{needs}
 use native.Mathlib.Nat.{lt-of-lt-of-le}
 use lib.Dec.{lit≤}
 use denote.Ref.{now}
-use Rattle.record.proofs.Chain.{fields-cut}
-use Rattle.record.proofs.fields.read_fields.Statement.{statement}
-use Rattle.record.proofs.fields.read_fields.Tie as tie
-use Rattle.record.proofs.fields.read_fields.Reads as reads
-use Rattle.record.proofs.fields.read_fields.Lts as lts
+use Rattle.fields.proofs.Chain.{fields-cut}
+use Rattle.fields.proofs.read_fields.Statement.{statement}
+use Rattle.fields.proofs.read_fields.Tie as tie
+use Rattle.fields.proofs.read_fields.Reads as reads
+use Rattle.fields.proofs.read_fields.Lts as lts
 use Rattle.cursor.proofs.Cursor.cut.Reads as cut-reads
-use Rattle.record.proofs.fields.eight_bytes.Reads as eight-bytes-reads
+use Rattle.fields.proofs.eight_bytes.Reads as eight-bytes-reads
 
--- src/fields.rt:40:9
 eight-bytes-requires : tie.Need-eight-bytes-requires
 eight-bytes-requires c κs = search needs
 
--- src/fields.rt:42:9
 cut-requires : tie.Need-cut-requires
 cut-requires c κs = search needs
 
--- src/fields.rt:43:9
 cut-requires-2 : tie.Need-cut-requires-2
 cut-requires-2 c κs = search needs
 
--- src/fields.rt:44:9
 cut-requires-3 : tie.Need-cut-requires-3
 cut-requires-3 c κs = search needs
 
--- src/fields.rt:45:9
 cut-requires-4 : tie.Need-cut-requires-4
 cut-requires-4 c κs = search needs
 
--- src/fields.rt:46:9
 cut-requires-5 : tie.Need-cut-requires-5
 cut-requires-5 c κs = search needs
 
--- src/fields.rt:47:9
 cut-requires-6 : tie.Need-cut-requires-6
 cut-requires-6 c κs = search needs
 
--- src/fields.rt:48:9
 cut-requires-7 : tie.Need-cut-requires-7
 cut-requires-7 c κs = search needs
 
--- src/fields.rt:49:9
 cut-requires-8 : tie.Need-cut-requires-8
 cut-requires-8 c κs = search needs
 
--- src/fields.rt:51:15
 cast-t13 : tie.Need-cast-t13
 cast-t13 c = record { fits = lt-of-lt-of-le (c .before .before .before .before .before .before .before .before .cut .ensures .small) (lit≤ tt) }
 
--- src/fields.rt:52:17
 cast-t14 : tie.Need-cast-t14
 cast-t14 c = search needs
 
--- src/fields.rt:53:17
 cast-t15 : tie.Need-cast-t15
 cast-t15 c = search needs
 
--- src/fields.rt:54:17
 cast-t16 : tie.Need-cast-t16
 cast-t16 c = search needs
 
--- src/fields.rt:55:17
 cast-t17 : tie.Need-cast-t17
 cast-t17 c = search needs
 
--- src/fields.rt:56:19
 cast-t18 : tie.Need-cast-t18
 cast-t18 c = search needs
 
--- src/fields.rt:57:16
 cast-t19 : tie.Need-cast-t19
 cast-t19 c = search needs
 
--- src/fields.rt:58:18
 cast-t20 : tie.Need-cast-t20
 cast-t20 c = search needs
 
--- src/fields.rt:36:1
 returns : tie.Need-returns
 returns c =
     let r8 = c .before .before .before .before .before .before .before .before in

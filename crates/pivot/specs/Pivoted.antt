@@ -5,8 +5,8 @@ use mathlib.Core.Bool.{true}
 use mathlib.Core.Option.{Option, some, none}
 use Prim.Native.Nat.{ℕ, _<_}
 use Rattle.bits.specs.Sets.{holds}
-use Rattle.solve.specs.declared.Found.{Found}
-use Rattle.solve.specs.declared.Found.the-variants.{At, Nothing}
+use Rattle.pivot.specs.declared.Found.{Found}
+use Rattle.pivot.specs.declared.Found.the-variants.{At, Nothing}
 
 unfoldable pub pivoted : Found → Option ℕ
 pivoted (At column) = some column

@@ -1,10 +1,10 @@
--- `lines::put_first` meets its contract. Assumes nothing.
+-- `first_line::put_first` meets its contract. Assumes nothing.
 use borrow.Author.Needs.{needs}
 use Rattle.answer.specs.Said.{said}
 use Rattle.listing.specs.Text.{ascii}
 use Rattle.listing.specs.Line.{wordsOf, firstLine}
-use Rattle.lines.proofs.put_first.Statement.{statement}
-use Rattle.lines.proofs.put_first.Tie as tie
+use Rattle.first_line.proofs.put_first.Statement.{statement}
+use Rattle.first_line.proofs.put_first.Tie as tie
 
 enum-known-answer : tie.Need-enum-known-answer
 enum-known-answer c = search needs

@@ -1,4 +1,4 @@
--- `lines::put_said` meets its contract: what is written after each call, up to the whole line. Assumes nothing.
+-- `first_line::put_said` meets its contract: what is written after each call, up to the whole line. Assumes nothing.
 use mathlib.Core.List.{_++_}
 use Prim.Native.Nat.{_≤_}
 use native.Mathlib.Omega.{arith}
@@ -7,8 +7,8 @@ use borrow.Author.Needs.{needs}
 use Rattle.listing.specs.Text.{ascii, decimal}
 use Rattle.text.proofs.Decimal.{decimal-length}
 use Rattle.text.proofs.Placing.{Put, put-then}
-use Rattle.lines.proofs.put_said.Statement.{statement}
-use Rattle.lines.proofs.put_said.Tie as tie
+use Rattle.first_line.proofs.put_said.Statement.{statement}
+use Rattle.first_line.proofs.put_said.Tie as tie
 
 -- where the function starts
 abbrev from-word : tie.After-put-text → tie.Start

@@ -1,10 +1,10 @@
--- `lines::put_or_zero` meets its contract. Assumes nothing.
+-- `row_line::put_or_zero` meets its contract. Assumes nothing.
 use native.Mathlib.Omega.{arith}
 use borrow.Author.Needs.{needs}
 use Rattle.listing.specs.Text.{ascii}
-use Rattle.lines.proofs.Lines.{wrote-zero, wrote-some}
-use Rattle.lines.proofs.put_or_zero.Statement.{statement}
-use Rattle.lines.proofs.put_or_zero.Tie as tie
+use Rattle.row_line.proofs.Lines.{wrote-zero, wrote-some}
+use Rattle.row_line.proofs.put_or_zero.Statement.{statement}
+use Rattle.row_line.proofs.put_or_zero.Tie as tie
 
 put-pieces-requires : tie.Need-put-pieces-requires
 put-pieces-requires c κs = search needs

@@ -1,4 +1,4 @@
--- `lines::put_row` meets its contract: what is written after each call, up to the whole line. Assumes nothing.
+-- `row_line::put_row` meets its contract: what is written after each call, up to the whole line. Assumes nothing.
 use mathlib.Core.List.{List, _++_}
 use Prim.Native.Nat.{ℕ, _≤_, _<_}
 use native.Mathlib.Omega.{arith}
@@ -11,9 +11,9 @@ use Rattle.text.proofs.Decimal.{decimal-length}
 use Rattle.text.proofs.Placing.{Put, put-then}
 use Rattle.places.specs.Listable.{rowHeld}
 use Rattle.pieces.proofs.Rows.{row-within}
-use Rattle.lines.proofs.Lines.{row-line-length}
-use Rattle.lines.proofs.put_row.Statement.{statement}
-use Rattle.lines.proofs.put_row.Tie as tie
+use Rattle.row_line.proofs.Lines.{row-line-length}
+use Rattle.row_line.proofs.put_row.Statement.{statement}
+use Rattle.row_line.proofs.put_row.Tie as tie
 
 -- where the function starts
 abbrev from-number : tie.After-put-decimal → tie.Start

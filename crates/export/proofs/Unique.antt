@@ -6,8 +6,9 @@ use Prim.Native.Nat.{ℕ}
 use lib.IntN.{ℤ}
 use Rattle.decide.proofs.Unique.{decide-unique}
 use Rattle.lines.proofs.Unique.{list-row-at-unique}
-use Rattle.export.specs.declared.Told.{Told}
-use Rattle.export.specs.Told.{told, placeOf, numberOf, Handed, Listed}
+use Rattle.in_numbers.specs.declared.Told.{Told}
+use Rattle.in_numbers.specs.Told.{told}
+use Rattle.export.specs.Handed.{placeOf, numberOf, Handed, Listed}
 
 -- Two answers in numbers, with the lists that they leave, for one byte string and the same lent lists.
 pub hamzulaph-decide-unique : (bytes : List ℕ) (nums dens nums′ dens′ nums″ dens″ : List ℤ) (r s : Told) → Handed bytes nums dens nums′ dens′ r → Handed bytes nums dens nums″ dens″ s → (r ≡ s) × (nums′ ≡ nums″) × (dens′ ≡ dens″)

@@ -1,42 +1,8 @@
 // The decider and the listing for programs in C or Rust: numbers and slices only.
-use answer::Answer;
+use in_numbers::in_numbers;
 use lines::Reached;
 ghost use mathlib.Core.Path.{_≡_};
-ghost use Rattle.export.specs.Told.{told, Handed, Listed};
-
-// An answer in numbers: its word, the number of a refusal, and its count or place.
-struct Told {
-    word: u8,
-    number: u8,
-    figure: usize,
-}
-
-fn in_numbers(answer: Answer) -> Told
-    ensures { λ r. ⌜ r ≡ told answer ⌝ }
-{
-    match answer {
-        Answer::Entailed { solved } => Told {
-            word: 0,
-            number: 0,
-            figure: solved,
-        },
-        Answer::NotEntailed { solved } => Told {
-            word: 1,
-            number: 0,
-            figure: solved,
-        },
-        Answer::Contradictory { place } => Told {
-            word: 2,
-            number: 0,
-            figure: place,
-        },
-        Answer::Refused { number, place } => Told {
-            word: 3,
-            number: number,
-            figure: place,
-        },
-    }
-}
+ghost use Rattle.export.specs.Handed.{Handed, Listed};
 
 // Decides one problem, as `decide::decide` does. Answers the word: 0 entailed, 1 not-entailed, 2 contradictory, 3 refused.
 #[no_mangle]

@@ -1,7 +1,7 @@
 -- `export::hamzulaph_list_row` meets its contract. Assumes nothing.
 use mathlib.Core.Path.{ap, sym}
 use borrow.Author.Needs.{needs}
-use Rattle.export.specs.Told.{placeOf, numberOf}
+use Rattle.export.specs.Handed.{placeOf, numberOf}
 use Rattle.export.proofs.hamzulaph_list_row.Statement.{statement}
 use Rattle.export.proofs.hamzulaph_list_row.Tie as tie
 

@@ -1,9 +1,9 @@
--- `export::in_numbers` meets its contract. Assumes nothing.
+-- `in_numbers::in_numbers` meets its contract. Assumes nothing.
 use mathlib.Core.Path.{ap, sym}
 use borrow.Author.Needs.{needs}
-use Rattle.export.specs.Told.{told}
-use Rattle.export.proofs.in_numbers.Statement.{statement}
-use Rattle.export.proofs.in_numbers.Tie as tie
+use Rattle.in_numbers.specs.Told.{told}
+use Rattle.in_numbers.proofs.in_numbers.Statement.{statement}
+use Rattle.in_numbers.proofs.in_numbers.Tie as tie
 
 enum-known-answer : tie.Need-enum-known-answer
 enum-known-answer c = search needs

@@ -12,9 +12,9 @@ use Rattle.fraction.specs.Made.{made, _>>=_}
 use Rattle.problem.specs.declared.Term.{Term}
 use Rattle.problem.specs.Bits.{field}
 use Rattle.problem.specs.Problem.{Problem, decoded}
-use Rattle.reader.specs.declared.Sides.{Sides}
+use Rattle.parts.specs.declared.Sides.{Sides}
 use Rattle.problem.specs.Pairs.{pairThere}
-use Rattle.reader.specs.Held.{pairOf}
+use Rattle.parts.specs.Held.{pairOf}
 use Rattle.problem.proofs.Holding.{sides-made, pairs-count, pair-there}
 use Rattle.run.specs.Run.{byNumber, assume}
 use Rattle.table.specs.Held.{tableAt, SoundTo}

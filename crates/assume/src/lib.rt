@@ -87,7 +87,7 @@ pub fn assume_all(
     let mut count = solved;
     let mut k: usize = 1;
     while k <= m {
-        let pair = reader::pair_at(bytes, n, k);
+        let pair = parts::pair_at(bytes, n, k);
         match assume_one(
             nums,
             dens,

@@ -5,7 +5,7 @@ mod links;
 use crate::call::note_call;
 use crate::links::note_links;
 use build_rows::build_term;
-use reader::term_at;
+use parts::term_at;
 use table::OPEN;
 use table::PENDING;
 use table::Step;

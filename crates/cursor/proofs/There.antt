@@ -1,5 +1,5 @@
 -- A field whose bits are there is taken.
--- Main results: `next-there`, `never-ended`, `value-at`. Assume nothing.
+-- Main results: `next-there`, `never-ended`, `value-at`, `second-side`. Assume nothing.
 use mathlib.Core.Path.{_≡_, refl, sym, ap, _∙_}
 use mathlib.Core.List.{List}
 use Prim.Native.Nat.{ℕ, _+_, _*_, _≤_}
@@ -34,3 +34,7 @@ module _ (bytes : List ℕ) (at width : ℕ) (there : at + width ≤ 8 * length 
 -- A piece's value, by a position that equals the cursor's.
 pub value-at : {bytes : List ℕ} {p width : ℕ} {piece : Piece} (q : ℕ) → Next bytes p width piece → p ≡ q → piece .value ≡ field bytes q width
 value-at {bytes} {p} {width} q next e = next .value ∙ ap (λ x. field bytes x width) e
+
+-- The second of two fields of 8 bits.
+pub second-side : {bytes : List ℕ} {p : ℕ} {left right : Piece} → Next bytes p 8 left → Next bytes (left .next .at) 8 right → right .value ≡ field bytes (p + 8) 8
+second-side {p = p} left right = value-at (p + 8) right (left .after)

@@ -1,10 +1,8 @@
--- A chain of pieces, each read from the cursor that the one before left, is a header or the sides of a pair.
--- Main results: `header-read`, `second-side`. Assume nothing.
-use mathlib.Core.Path.{_≡_}
+-- A chain of pieces, each read from the cursor that the one before left, is a header.
+-- Main result: `header-read`. Assumes nothing.
 use mathlib.Core.List.{List}
-use Prim.Native.Nat.{ℕ, _+_}
+use Prim.Native.Nat.{ℕ}
 use native.Mathlib.Omega.{arith}
-use Rattle.problem.specs.Bits.{field}
 use Rattle.cursor.specs.declared.Piece.{Piece}
 use Rattle.cursor.specs.Taken.{Next}
 use Rattle.cursor.proofs.There.{value-at}
@@ -14,7 +12,3 @@ use Rattle.reader.specs.Reads.{HeaderRead}
 pub header-read : {bytes : List ℕ} {n m left right : Piece} → Next bytes 0 8 n → Next bytes (n .next .at) 8 m → Next bytes (m .next .at) 8 left → Next bytes (left .next .at) 8 right → HeaderRead bytes (record { n = n .value; m = m .value; left = left .value; right = right .value })
 header-read n m left right =
     record { terms = n .value; pairs = value-at 8 m (omega arith); left = value-at 16 left (omega arith); right = value-at 24 right (omega arith) }
-
--- Two pieces in a chain are the sides of a pair.
-pub second-side : {bytes : List ℕ} {p : ℕ} {left right : Piece} → Next bytes p 8 left → Next bytes (left .next .at) 8 right → right .value ≡ field bytes (p + 8) 8
-second-side {p = p} left right = value-at (p + 8) right (left .after)

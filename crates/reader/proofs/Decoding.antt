@@ -23,7 +23,8 @@ use Rattle.reader.specs.declared.Read.the-variants.{Sound, Refused}
 use Rattle.record.specs.declared.TermRead.{TermRead}
 use Rattle.record.specs.declared.TermRead.the-variants as term
 use Rattle.record.specs.Terms.{judged, termRead}
-use Rattle.reader.specs.Reads.{headerOf, readAs, readOf, HeaderRead, Framed, isSound, soundTerm, sidesBelow, soundPair, First}
+use Rattle.walk.specs.Walks.{isSound, soundTerm, sidesBelow, soundPair, First}
+use Rattle.reader.specs.Reads.{headerOf, readAs, readOf, HeaderRead, Framed}
 
 -- what follows tests 2 to 4
 unfoldable body : List ℕ → (n m : ℕ) → Made Refusal Problem

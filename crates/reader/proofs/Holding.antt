@@ -1,21 +1,14 @@
--- What is known where a byte string is read as sound, or holds a term or a pair.
--- Main results: `read-held`, `term-within`, `term-held`, `pair-within`, `pair-held`. Assume nothing.
-use mathlib.Core.Path.{_≡_, refl, sym, _∙_}
+-- What is known where a byte string is read as sound.
+-- Main result: `read-held`. Assumes nothing.
+use mathlib.Core.Path.{_≡_, refl}
 use mathlib.Core.List.{List}
-use Prim.Native.Nat.{ℕ, _+_, _-_, _*_, _≤_, _<_}
+use Prim.Native.Nat.{ℕ}
 use native.Mathlib.Omega.{arith}
-use lib.ListN.{length}
-use Rattle.answer.specs.Refusals.{Refusal, TERM}
-use Rattle.fraction.proofs.Making.{stopped-not-made}
+use Rattle.answer.specs.Refusals.{Refusal}
 use Rattle.fraction.specs.Made.{Made, made, stopped}
-use Rattle.problem.specs.declared.Kind.the-variants.{Variable}
-use Rattle.problem.specs.Bits.{field}
-use Rattle.problem.specs.Problem.{Problem, refuse, termAt, decoded}
+use Rattle.problem.specs.Problem.{Problem, decoded}
 use Rattle.reader.specs.declared.Header.{Header}
 use Rattle.reader.specs.declared.Read.the-variants.{Sound}
-use Rattle.problem.specs.Pairs.{pairThere}
-use Rattle.problem.proofs.Holding.{holding, sides-made, term-there, pair-there}
-use Rattle.reader.specs.Held.{TermHeld, PairHeld}
 use Rattle.reader.specs.Reads.{headerOf, readAs, readOf}
 
 -- What is read as sound holds a problem, whose header was answered.
@@ -26,27 +19,3 @@ read-held bytes h = go (decoded bytes) refl
     go : (d : Made Refusal Problem) → decoded bytes ≡ d → readAs d ≡ Sound h → (p : Problem) × (decoded bytes ≡ made p) × (h ≡ headerOf p)
     go (made p) e s = (p, e, cc)
     go (stopped why) e s = let z : _≡_ {A = ℕ} 0 1 = cc in absurd (omega arith)
-
--- A term that is held has its record within the bytes, and is what reading the record answers.
-pub term-within : (bytes : List ℕ) (t : ℕ) → TermHeld bytes t → (t < 64) × (12 + 8 * t ≤ length bytes)
-term-within bytes t h =
-    let parts = holding bytes (h .held .problem) (h .held .same) in
-    omega (arith, parts, h .below)
-
-pub term-held : (bytes : List ℕ) (t : ℕ) → TermHeld bytes t → termAt bytes t ≡ refuse TERM t → ⊥
-unfolding refuse
-term-held bytes t h e = stopped-not-made (sym e ∙ term-there bytes (h .held .problem) (h .held .same) t (h .below) (record { kind = Variable 0 }))
-
--- A pair that is held has its sides within the bytes, and is made of them.
-pub pair-within : (bytes : List ℕ) (n k : ℕ) → PairHeld bytes n k → (n ≤ 64) × (1 ≤ k) × (k ≤ 64) × (4 + 8 * n + 2 * k ≤ length bytes)
-pair-within bytes n k h =
-    let parts = holding bytes (h .held .problem) (h .held .same) in
-    omega (arith, parts, h)
-
-pub pair-held : (bytes : List ℕ) (n k : ℕ) → PairHeld bytes n k → pairThere bytes n k ≡ made (record { left = field bytes (32 + 64 * n + 16 * (k - 1)) 8; right = field bytes (32 + 64 * n + 16 * (k - 1) + 8) 8 })
-unfolding pairThere
-pair-held bytes n k h =
-    let index : 1 + (k - 1) ≡ k = omega (arith, h .least) in
-    let there = rw (index, ← h .terms) at (pair-there bytes (h .held .problem) (h .held .same) (k - 1) (omega (arith, h .least, h .most)) (record { left = 0; right = 0 })) in
-    let sides = sides-made bytes n k _ _ there in
-    there ∙ (λ i. made (record { left = sides .left i; right = sides .right i }))

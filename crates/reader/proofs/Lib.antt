@@ -2,4 +2,3 @@ pub mod Chain
 pub mod Decoding
 pub mod Holding
 pub mod Unique
-pub mod Walking

@@ -1,10 +1,8 @@
 -- What reading a byte string answers: the header of the problem that it holds, or the refusal that it gets.
 -- Main definition: `readOf`. Assumes nothing.
 use mathlib.Core.Path.{_≡_}
-use mathlib.Core.Bool.{Bool, true, false, _&&_}
 use mathlib.Core.List.{List}
-use Prim.Native.Nat.{ℕ, _+_, _-_, _*_, _<_, _≤_}
-use lib.Dec.{ltb}
+use Prim.Native.Nat.{ℕ, _+_, _*_, _≤_}
 use lib.ListN.{length}
 use Rattle.answer.specs.Refusals.{Refusal}
 use Rattle.fraction.specs.Made.{Made, made, stopped}
@@ -13,9 +11,6 @@ use Rattle.problem.specs.Problem.{Problem, decoded}
 use Rattle.reader.specs.declared.Header.{Header}
 use Rattle.reader.specs.declared.Read.{Read}
 use Rattle.reader.specs.declared.Read.the-variants as answered
-use Rattle.record.specs.declared.TermRead.{TermRead}
-use Rattle.record.specs.declared.TermRead.the-variants.{Sound, Faulty}
-use Rattle.record.specs.Terms.{termRead}
 
 unfoldable pub headerOf : Problem → Header
 headerOf p = record { n = length (p .terms); m = length (p .pairs); left = p .goal .left; right = p .goal .right }
@@ -42,28 +37,3 @@ pub record Framed (bytes : List ℕ) (h : Header) : Type 0 where
   pub few-terms : h .n ≤ 64
   pub few-pairs : h .m ≤ 64
   pub whole : length bytes ≡ 4 + 8 * h .n + 2 * h .m
-
-unfoldable pub isSound : TermRead → Bool
-isSound (Sound t) = true
-isSound Faulty = false
-
-unfoldable pub soundTerm : List ℕ → (t : ℕ) → Bool
-soundTerm bytes t = isSound (termRead bytes t)
-
-unfoldable pub sidesBelow : List ℕ → (n p : ℕ) → Bool
-sidesBelow bytes n p = ltb (field bytes p 8) n && ltb (field bytes (p + 8) 8) n
-
--- pair k, counted from 1
-unfoldable pub soundPair : List ℕ → (n k : ℕ) → Bool
-soundPair bytes n k = sidesBelow bytes n (32 + 64 * n + 16 * (k - 1))
-
--- every index from `from` up to r is sound
-pub record Passed (from end : ℕ) (sound : ℕ → Bool) (r : ℕ) : Type 0 where
-  pub least : from ≤ r
-  pub most : r ≤ end
-  pub before : (k : ℕ) → from ≤ k → k < r → sound k ≡ true
-
--- the first index from `from` on that is not sound, or `end`
-pub record First (from end : ℕ) (sound : ℕ → Bool) (r : ℕ) : Type 0 where
-  pub passed : Passed from end sound r
-  pub there : r < end → sound r ≡ false

@@ -1,25 +1,15 @@
 // The reader: from a byte string to the problem that it holds, or to the refusal that it gets.
-mod walk;
-
 use answer::COUNT;
 use answer::LENGTH;
 use answer::PAIR;
 use answer::SHORT;
 use answer::TERM;
 use cursor::Cursor;
-use problem::Kind;
 use problem::TERMS;
-use problem::Term;
-use record::TermRead;
-use record::read_term;
 ghost use mathlib.Core.Path.{_≡_};
 ghost use Prim.Native.Nat.{_≤_};
 ghost use lib.ListN.{length};
-ghost use Rattle.fraction.specs.Made.{made};
-ghost use Rattle.problem.specs.Pairs.{pairThere};
-ghost use Rattle.problem.specs.Problem.{termAt};
 ghost use Rattle.reader.specs.Reads.{HeaderRead, Framed, readOf};
-ghost use Rattle.reader.specs.Held.{TermHeld, PairHeld, pairOf};
 
 // The counts of terms and assumptions, and the sides of the goal.
 pub struct Header {
@@ -30,16 +20,10 @@ pub struct Header {
 }
 
 // What reading a byte string answers. A sound problem is answered by its header: an enum holds no array, so its terms and
-// pairs stay in the bytes, where `term_at` and `pair_at` read them.
+// pairs stay in the bytes, where `parts::term_at` and `parts::pair_at` read them.
 pub enum Read {
     Sound(Header),
     Refused { number: u8, place: usize },
-}
-
-// The two terms of a pair.
-pub struct Sides {
-    pub left: usize,
-    pub right: usize,
 }
 
 fn read_header(bytes: &[u8]) -> Header
@@ -112,33 +96,4 @@ pub fn read_problem(bytes: &[u8]) -> Read
         return refused(LENGTH, 0);
     }
     judge(bytes, header)
-}
-
-// Term `t` of a problem that was read.
-pub fn term_at(bytes: &[u8], t: usize) -> Term
-    requires { ⌜ TermHeld (now bytes) t ⌝ }
-    ensures { λ r. ⌜ made r ≡ termAt (now (bytes .entry)) t ⌝ }
-{
-    match read_term(bytes, t) {
-        TermRead::Sound(term) => term,
-        TermRead::Faulty => Term {
-            kind: Kind::Variable { symbol: 0 },
-        },
-    }
-}
-
-// The sides of pair `k`, from 1, of a problem of `n` terms that was read.
-pub fn pair_at(bytes: &[u8], n: usize, k: usize) -> Sides
-    requires { ⌜ PairHeld (now bytes) n k ⌝ }
-    ensures { λ r. ⌜ made (pairOf r) ≡ pairThere (now (bytes .entry)) n k ⌝ }
-{
-    let start = Cursor {
-        at: 32 + 64 * n + 16 * (k - 1),
-    };
-    let left = start.read(bytes, 8);
-    let right = left.next.read(bytes, 8);
-    Sides {
-        left: left.value as usize,
-        right: right.value as usize,
-    }
 }

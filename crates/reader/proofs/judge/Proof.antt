@@ -8,9 +8,9 @@ use Rattle.reader.proofs.judge.Tie as tie
 use Rattle.reader.proofs.judge.Reads as reads
 use Rattle.reader.proofs.judge.Lts as lts
 use Rattle.reader.proofs.refused.Reads as refused-reads
-use Rattle.reader.proofs.walk.both_below.Reads as both-below-reads
-use Rattle.reader.proofs.walk.first_beyond.Reads as first-beyond-reads
-use Rattle.reader.proofs.walk.first_faulty.Reads as first-faulty-reads
+use Rattle.walk.proofs.both_below.Reads as both-below-reads
+use Rattle.walk.proofs.first_beyond.Reads as first-beyond-reads
+use Rattle.walk.proofs.first_faulty.Reads as first-faulty-reads
 
 -- src/lib.rt:70:9
 first-faulty-requires : tie.Need-first-faulty-requires

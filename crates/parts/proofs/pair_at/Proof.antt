@@ -1,52 +1,42 @@
 use borrow.Author.Needs.{needs}
 use native.Mathlib.Omega.{arith}
 use denote.Ref.{now}
-use Rattle.reader.specs.Held.{pairOf}
-use Rattle.reader.proofs.Chain.{second-side}
-use Rattle.reader.proofs.Holding.{pair-within, pair-held}
-use Rattle.reader.proofs.pair_at.Statement.{statement}
-use Rattle.reader.proofs.pair_at.Tie as tie
-use Rattle.reader.proofs.pair_at.Reads as reads
-use Rattle.reader.proofs.pair_at.Lts as lts
+use Rattle.parts.specs.Held.{pairOf}
+use Rattle.cursor.proofs.There.{second-side}
+use Rattle.parts.proofs.Holding.{pair-within, pair-held}
+use Rattle.parts.proofs.pair_at.Statement.{statement}
+use Rattle.parts.proofs.pair_at.Tie as tie
+use Rattle.parts.proofs.pair_at.Reads as reads
+use Rattle.parts.proofs.pair_at.Lts as lts
 use Rattle.cursor.proofs.Cursor.read.Reads as read-reads
 
--- src/lib.rt:141:18
 mul-t7 : tie.Need-mul-t7
 mul-t7 c = omega (arith, pair-within (now (c .before .args .bytes)) (c .before .args .n) (c .before .args .k) (c .before .pre))
 
--- src/lib.rt:141:13
 add-t8 : tie.Need-add-t8
 add-t8 c = omega (arith, pair-within (now (c .before .args .bytes)) (c .before .args .n) (c .before .args .k) (c .before .pre))
 
--- src/lib.rt:141:33
 sub-t9 : tie.Need-sub-t9
 sub-t9 c = search needs
 
--- src/lib.rt:141:27
 mul-t10 : tie.Need-mul-t10
 mul-t10 c = omega (arith, pair-within (now (c .before .args .bytes)) (c .before .args .n) (c .before .args .k) (c .before .pre))
 
--- src/lib.rt:141:13
 add-t11 : tie.Need-add-t11
 add-t11 c = omega (arith, pair-within (now (c .before .args .bytes)) (c .before .args .n) (c .before .args .k) (c .before .pre))
 
--- src/lib.rt:143:9
 read-requires : tie.Need-read-requires
 read-requires c κs = omega (arith, pair-within (now (c .before .args .bytes)) (c .before .args .n) (c .before .args .k) (c .before .pre))
 
--- src/lib.rt:144:9
 read-requires-2 : tie.Need-read-requires-2
 read-requires-2 c κs = omega (arith, pair-within (now (c .before .before .args .bytes)) (c .before .before .args .n) (c .before .before .args .k) (c .before .before .pre))
 
--- src/lib.rt:146:15
 cast-t7 : tie.Need-cast-t7
 cast-t7 c = search needs
 
--- src/lib.rt:147:16
 cast-t11 : tie.Need-cast-t11
 cast-t11 c = search needs
 
--- src/lib.rt:136:1
 returns : tie.Need-returns
 unfolding pairOf
 returns c =

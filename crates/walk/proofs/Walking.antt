@@ -5,7 +5,7 @@ use mathlib.Core.Bool.{Bool, true, false}
 use Prim.Native.Nat.{ℕ, _+_, _≤_, _<_}
 use native.Mathlib.Omega.{arith}
 use native.Mathlib.Decide.{decLt}
-use Rattle.reader.specs.Reads.{Passed, First}
+use Rattle.walk.specs.Walks.{Passed, First}
 
 module _ {from end : ℕ} {sound : ℕ → Bool} where
   pub passed-none : from ≤ end → Passed from end sound from

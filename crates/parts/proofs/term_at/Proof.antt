@@ -1,34 +1,29 @@
 use borrow.Author.Needs.{needs}
 use mathlib.Core.Path.{sym, ap, _∙_}
 use denote.Ref.{now}
 use Rattle.reader.proofs.Decoding.{termAs, term-as}
-use Rattle.reader.proofs.Holding.{term-within, term-held}
-use Rattle.reader.proofs.term_at.Statement.{statement}
-use Rattle.reader.proofs.term_at.Tie as tie
-use Rattle.reader.proofs.term_at.Reads as reads
-use Rattle.reader.proofs.term_at.Lts as lts
+use Rattle.parts.proofs.Holding.{term-within, term-held}
+use Rattle.parts.proofs.term_at.Statement.{statement}
+use Rattle.parts.proofs.term_at.Tie as tie
+use Rattle.parts.proofs.term_at.Reads as reads
+use Rattle.parts.proofs.term_at.Lts as lts
 use Rattle.record.proofs.read_term.Reads as read-term-reads
 
--- src/lib.rt:127:11
 read-term-requires : tie.Need-read-term-requires
 read-term-requires c κs = term-within (now (c .before .args .bytes)) (c .before .args .t) (c .before .pre)
 
--- src/lib.rt:128:25
 enum-known-term : tie.Need-enum-known-term
 enum-known-term c = search needs
 
--- src/lib.rt:130:19
 enum-told : tie.Need-enum-told
 enum-told c = search needs
 
--- src/lib.rt:123:1
 returns : tie.Need-returns
 unfolding termAs
 returns c =
     let a = c .before .before .before .before .before .args in
     sym (term-as (now (a .bytes)) (a .t) ∙ ap (termAs (a .t)) (sym (c .before .before .before .read-term .ensures) ∙ c .before .term .given .1))
 
--- src/lib.rt:123:1
 returns-2 : tie.Need-returns-2
 unfolding termAs
 returns-2 c =

@@ -5,7 +5,7 @@ use record::read_term;
 ghost use mathlib.Core.Path.{_≡_};
 ghost use Prim.Native.Nat.{_+_, _*_, _≤_, _<_};
 ghost use lib.ListN.{length};
-ghost use Rattle.reader.specs.Reads.{First, soundTerm, sidesBelow, soundPair};
+ghost use Rattle.walk.specs.Walks.{First, soundTerm, sidesBelow, soundPair};
 
 fn is_sound(bytes: &[u8], t: usize) -> bool
     requires { ⌜ (t < 64) × (12 + 8 * t ≤ length (now bytes)) ⌝ }
@@ -18,7 +18,7 @@ fn is_sound(bytes: &[u8], t: usize) -> bool
 }
 
 // The lowest faulty term, or `n`.
-pub(crate) fn first_faulty(bytes: &[u8], n: usize) -> usize
+pub fn first_faulty(bytes: &[u8], n: usize) -> usize
     requires { ⌜ (n ≤ 64) × (4 + 8 * n ≤ length (now bytes)) ⌝ }
     ensures { λ r. ⌜ First 0 n (soundTerm (now (bytes .entry))) r ⌝ }
 {
@@ -33,7 +33,7 @@ pub(crate) fn first_faulty(bytes: &[u8], n: usize) -> usize
 }
 
 // Whether the two sides from bit `at` on are terms.
-pub(crate) fn both_below(bytes: &[u8], n: usize, at: usize) -> bool
+pub fn both_below(bytes: &[u8], n: usize, at: usize) -> bool
     requires { ⌜ (at ≤ 65536) × (at + 16 ≤ 8 * length (now bytes)) ⌝ }
     ensures { λ r. ⌜ r ≡ sidesBelow (now (bytes .entry)) n at ⌝ }
 {
@@ -48,7 +48,7 @@ pub(crate) fn both_below(bytes: &[u8], n: usize, at: usize) -> bool
 }
 
 // The first pair with a side that is no term, from 1, or `m + 1`.
-pub(crate) fn first_beyond(bytes: &[u8], n: usize, m: usize) -> usize
+pub fn first_beyond(bytes: &[u8], n: usize, m: usize) -> usize
     requires { ⌜ (n ≤ 64) × (m ≤ 64) × (4 + 8 * n + 2 * m ≤ length (now bytes)) ⌝ }
     ensures { λ r. ⌜ First 1 (m + 1) (soundPair (now (bytes .entry)) n) r ⌝ }
 {

@@ -3,13 +3,13 @@ use borrow.Author.Tests.{not-true, not-false}
 use mathlib.Core.Path.{sym, _∙_}
 use Prim.Native.Nat.{_+_, _-_}
 use native.Mathlib.Omega.{arith}
-use Rattle.reader.specs.Reads.{Passed, soundTerm, soundPair}
-use Rattle.reader.proofs.Walking.{passed-none, passed-more, first-found, first-none}
-use Rattle.reader.proofs.walk.first_beyond.Statement.{statement}
-use Rattle.reader.proofs.walk.first_beyond.Tie as tie
-use Rattle.reader.proofs.walk.first_beyond.Reads as reads
-use Rattle.reader.proofs.walk.first_beyond.Lts as lts
-use Rattle.reader.proofs.walk.both_below.Reads as both-below-reads
+use Rattle.walk.specs.Walks.{Passed, soundTerm, soundPair}
+use Rattle.walk.proofs.Walking.{passed-none, passed-more, first-found, first-none}
+use Rattle.walk.proofs.first_beyond.Statement.{statement}
+use Rattle.walk.proofs.first_beyond.Tie as tie
+use Rattle.walk.proofs.first_beyond.Reads as reads
+use Rattle.walk.proofs.first_beyond.Lts as lts
+use Rattle.walk.proofs.both_below.Reads as both-below-reads
 
 abbrev Inv-loop : tie.InvT-loop
 Inv-loop bytes n m k₀ k = Passed 1 (m + 1) (soundPair bytes n) k
@@ -17,53 +17,41 @@ Inv-loop bytes n m k₀ k = Passed 1 (m + 1) (soundPair bytes n) k
 abbrev μ-loop : tie.MeasureT-loop
 μ-loop bytes n m k₀ k = m + 1 - k
 
--- src/walk.rt:56:5
 loop-holds : tie.Need-loop-holds Inv-loop μ-loop
 loop-holds c = passed-none (omega arith)
 
--- src/walk.rt:57:39
 mul-both-below : tie.Need-mul-both-below Inv-loop μ-loop
 mul-both-below c = search needs
 
--- src/walk.rt:57:34
 add-both-below : tie.Need-add-both-below Inv-loop μ-loop
 add-both-below c = search needs
 
--- src/walk.rt:57:54
 sub-both-below : tie.Need-sub-both-below Inv-loop μ-loop
 sub-both-below c = search needs
 
--- src/walk.rt:57:48
 mul-both-below-2 : tie.Need-mul-both-below-2 Inv-loop μ-loop
 mul-both-below-2 c = search needs
 
--- src/walk.rt:57:34
 add-both-below-2 : tie.Need-add-both-below-2 Inv-loop μ-loop
 add-both-below-2 c = search needs
 
--- src/walk.rt:57:13
 both-below-requires : tie.Need-both-below-requires Inv-loop μ-loop
 both-below-requires c κs = search needs
 
--- src/walk.rt:58:13
 returns : tie.Need-returns Inv-loop μ-loop
 unfolding soundPair
 returns c = first-found (c .before .before .before .loop .inv) (sym (c .before .both-below .ensures) ∙ not-true _ (c .if1 .taken))
 
--- src/walk.rt:60:9
 add-k : tie.Need-add-k Inv-loop μ-loop
 add-k c = search needs
 
--- src/walk.rt:56:5
 loop-less : tie.Need-loop-less Inv-loop μ-loop
 loop-less c = search needs
 
--- src/walk.rt:56:5
 loop-again : tie.Need-loop-again Inv-loop μ-loop
 unfolding soundPair
 loop-again c = passed-more (c .before .before .before .loop .inv) (omega arith) (sym (c .before .both-below .ensures) ∙ not-false _ (c .if1 .left))
 
--- src/walk.rt:51:1
 returns-2 : tie.Need-returns-2 Inv-loop μ-loop
 returns-2 c = first-none (c .before .loop .inv) (omega arith)
 

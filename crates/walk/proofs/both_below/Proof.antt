@@ -1,37 +1,31 @@
 use borrow.Author.Needs.{needs}
 use borrow.Author.Tests.{lt-ltb, le-ltb}
-use Rattle.reader.proofs.Chain.{second-side}
-use Rattle.reader.specs.Reads.{sidesBelow}
-use Rattle.reader.proofs.walk.both_below.Statement.{statement}
-use Rattle.reader.proofs.walk.both_below.Tie as tie
-use Rattle.reader.proofs.walk.both_below.Reads as reads
-use Rattle.reader.proofs.walk.both_below.Lts as lts
+use Rattle.cursor.proofs.There.{second-side}
+use Rattle.walk.specs.Walks.{sidesBelow}
+use Rattle.walk.proofs.both_below.Statement.{statement}
+use Rattle.walk.proofs.both_below.Tie as tie
+use Rattle.walk.proofs.both_below.Reads as reads
+use Rattle.walk.proofs.both_below.Lts as lts
 use Rattle.cursor.proofs.Cursor.read.Reads as read-reads
 
--- src/walk.rt:41:9
 read-requires : tie.Need-read-requires
 read-requires c κs = search needs
 
--- src/walk.rt:42:9
 cast-if1 : tie.Need-cast-if1
 cast-if1 c = search needs
 
--- src/walk.rt:43:13
 read-requires-2 : tie.Need-read-requires-2
 read-requires-2 c κs = search needs
 
--- src/walk.rt:44:10
 cast-result : tie.Need-cast-result
 cast-result c = search needs
 
--- src/walk.rt:36:1
 returns : tie.Need-returns
 unfolding sidesBelow
 returns c =
     let first = c .before .before .before .before in
     rw (← first .read .ensures .value, lt-ltb _ _ (c .before .before .if1 .taken), second-side (first .read .ensures) (c .before .read2 .ensures))
 
--- src/walk.rt:36:1
 returns-2 : tie.Need-returns-2
 unfolding sidesBelow
 returns-2 c = rw (← c .before .before .read .ensures .value, le-ltb _ _ (c .if1 .left))

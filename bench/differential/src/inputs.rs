@@ -27,7 +27,7 @@ pub fn families(times: u64) -> Vec<Family> {
     let all = |name, make, count| Family { name, make, count, same: false };
     let some = |name, make, count| Family { name, make, count: count * times, same: false };
     let bytes: u64 = files().iter().map(|file| file.len() as u64).sum();
-    vec![
+    let mut families = vec![
         all("file_prefix", file_prefix, bytes + files().len() as u64),
         all("file_bit", file_bit, 8 * bytes),
         all("case_prefix", gen::case_prefix, gen::case_prefixes()),
@@ -38,15 +38,10 @@ pub fn families(times: u64) -> Vec<Family> {
         some("congruent", gen::congruent, 60_000),
         some("dense", gen::dense, 8_000),
         some("dense_kept_small", gen::dense_kept_small, 2_000),
-        some("limit_build", gen::limit_build, 8_000),
-        some("limit_first_close", gen::limit_first_close, 8_000),
-        some("limit_difference", gen::limit_difference, 8_000),
-        some("limit_quotient", gen::limit_quotient, 8_000),
-        some("limit_product", gen::limit_product, 8_000),
-        some("limit_sum", gen::limit_sum, 8_000),
-        some("limit_order", gen::limit_order, 8_000),
         Family { name: "permuted", make: gen::permuted, count: 40_000 * times, same: true },
-    ]
+    ];
+    families.extend(gen::LIMITS.map(|(name, make)| some(name, make, 8_000)));
+    families
 }
 
 /// The files of `problems`, in the order of their names.

@@ -3,7 +3,7 @@
 use differential::check::{Checker, Fault};
 use differential::inputs::{families, BLOCK};
 use differential::lending::Noise;
-use differential::sides::{Decide, Listed, Side, Told, OURS, PLAIN};
+use differential::sides::{Decide, ListRow, Listed, Side, Told, OURS, PLAIN};
 
 /// How many inputs of each family a wrong implementation may stay unseen on.
 const ENOUGH: u64 = 1_000;
@@ -126,36 +126,24 @@ fn common_faults_are_caught() {
     }
 }
 
-fn listing_plus_for_minus(
-    buf: &mut [u8],
-    at: usize,
-    nums: &[i32],
-    dens: &[i32],
-    t: usize,
-) -> Listed {
+const LISTING_PLUS_FOR_MINUS: ListRow = |buf, at, nums, dens, t| {
     let listed = (PLAIN.list_row)(buf, at, nums, dens, t);
     if listed.number == 0 {
         let signs = buf[at..listed.place].iter_mut().filter(|byte| **byte == b'-');
         signs.for_each(|byte| *byte = b'+');
     }
     listed
-}
+};
 
-fn listing_a_byte_more(buf: &mut [u8], at: usize, nums: &[i32], dens: &[i32], t: usize) -> Listed {
+const LISTING_A_BYTE_MORE: ListRow = |buf, at, nums, dens, t| {
     let listed = (PLAIN.list_row)(buf, at, nums, dens, t);
     if let (0, Some(byte)) = (listed.number, buf.get_mut(listed.place)) {
         *byte = 0;
     }
     listed
-}
+};
 
-fn listing_with_less_room(
-    buf: &mut [u8],
-    at: usize,
-    nums: &[i32],
-    dens: &[i32],
-    t: usize,
-) -> Listed {
+const LISTING_WITH_LESS_ROOM: ListRow = |buf, at, nums, dens, t| {
     if buf.len().saturating_sub(at) != 2047 {
         return (PLAIN.list_row)(buf, at, nums, dens, t);
     }
@@ -163,35 +151,29 @@ fn listing_with_less_room(
     let listed = (PLAIN.list_row)(&mut longer, at, nums, dens, t);
     buf.copy_from_slice(&longer[..buf.len()]);
     listed
-}
+};
 
 /// The row's number before the room.
-fn listing_row_first(buf: &mut [u8], at: usize, nums: &[i32], dens: &[i32], t: usize) -> Listed {
+const LISTING_ROW_FIRST: ListRow = |buf, at, nums, dens, t| {
     if t > 63 {
         return Listed { number: 8, place: at };
     }
     (PLAIN.list_row)(buf, at, nums, dens, t)
-}
+};
 
-fn listing_lowest_numerator(
-    buf: &mut [u8],
-    at: usize,
-    nums: &[i32],
-    dens: &[i32],
-    t: usize,
-) -> Listed {
+const LISTING_LOWEST_NUMERATOR: ListRow = |buf, at, nums, dens, t| {
     let changed: Vec<i32> = nums.iter().map(|&num| num.max(-i32::MAX)).collect();
     (PLAIN.list_row)(buf, at, &changed, dens, t)
-}
+};
 
 #[test]
 fn wrong_listings_are_caught() {
     for list_row in [
-        listing_plus_for_minus,
-        listing_a_byte_more,
-        listing_with_less_room,
-        listing_row_first,
-        listing_lowest_numerator,
+        LISTING_PLUS_FOR_MINUS,
+        LISTING_A_BYTE_MORE,
+        LISTING_WITH_LESS_ROOM,
+        LISTING_ROW_FIRST,
+        LISTING_LOWEST_NUMERATOR,
     ] {
         is_caught(Side { list_row, ..PLAIN });
     }

@@ -52,10 +52,7 @@ fn damaged(count: usize) -> Vec<Vec<u8>> {
 /// so that all terms are.
 pub fn chain(n: usize, less: usize) -> Vec<u8> {
     let mut record = Record::new();
-    let mut terms = vec![record.variable(0)];
-    while terms.len() < n {
-        terms.push(record.lookup(1, &[terms[terms.len() - 1]]));
-    }
+    let terms = record.powers(1, n);
     let last = (n - less).max(2);
     record.assume(terms[last], terms[0]);
     record.assume(terms[last - 1], terms[0]);

@@ -58,18 +58,9 @@ pub const LISTING_A: &str = "not-entailed 0 1\n\
 
 const F: u8 = 1;
 
-/// x, f(x), f(f(x)) and so on, up to `most` times f.
-fn powers(record: &mut Record, most: usize) -> Vec<u8> {
-    let mut terms = vec![record.variable(0)];
-    for _ in 0..most {
-        terms.push(record.lookup(F, &[terms[terms.len() - 1]]));
-    }
-    terms
-}
-
 fn powers_b() -> Record {
     let mut r = Record::new();
-    let f = powers(&mut r, 5);
+    let f = r.powers(F, 6);
     r.assume(f[3], f[1]);
     r.goal(f[5], f[1]);
     r
@@ -77,7 +68,7 @@ fn powers_b() -> Record {
 
 fn powers_c() -> Record {
     let mut r = Record::new();
-    let f = powers(&mut r, 5);
+    let f = r.powers(F, 6);
     r.assume(f[5], f[0]);
     r.assume(f[3], f[0]);
     r.goal(f[1], f[0]);
@@ -150,8 +141,8 @@ fn negations_g() -> Record {
 /// x=y, f³(x)=f(x), goal f⁴(y)=f(x).
 fn powers_h() -> Record {
     let mut r = Record::new();
-    let x = powers(&mut r, 3);
-    let y = powers(&mut r, 4);
+    let x = r.powers(F, 4);
+    let y = r.powers(F, 5);
     r.assume(x[0], y[0]);
     r.assume(x[3], x[1]);
     r.goal(y[4], x[1]);

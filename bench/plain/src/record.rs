@@ -75,6 +75,15 @@ impl Record {
         self.add(Fields { kind: 5 + of.len() as u8, symbol, inputs, ..Fields::default() })
     }
 
+    /// A variable x, then f(x), f(f(x)) and so on: so many terms.
+    pub fn powers(&mut self, symbol: u8, count: usize) -> Vec<u8> {
+        let mut terms = vec![self.variable(0)];
+        while terms.len() < count {
+            terms.push(self.lookup(symbol, &[terms[terms.len() - 1]]));
+        }
+        terms
+    }
+
     /// The record of a term once more, as a term of its own.
     pub fn repeat(&mut self, term: u8) -> u8 {
         self.terms.push(self.terms[usize::from(term)]);

@@ -35,14 +35,14 @@ fn every_bit_of_the_cases() {
 
 #[test]
 fn random_inputs_of_every_generator() {
-    for (name, generator) in gen::ALL {
+    for (name, generator) in gen::all() {
         compare(name, generator, if name.starts_with("dense") { 100 } else { 2_000 });
     }
 }
 
 #[test]
 fn generators_give_the_same_again() {
-    for (_, generator) in gen::ALL {
+    for (_, generator) in gen::all() {
         for index in 0..50 {
             assert_eq!(generator(5, index), generator(5, index));
         }

@@ -21,21 +21,18 @@ use std::process::ExitCode;
 use std::sync::atomic::{AtomicUsize, Ordering};
 use std::thread;
 
-/// How many problems are taken of each kind, beside document 01's cases.
-const KINDS: [(&str, Generator, usize); 12] = [
+/// How many problems are taken of each kind, beside document 01's cases and
+/// those about the limits.
+const KINDS: [(&str, Generator, usize); 5] = [
     ("congruent", gen::congruent, 400),
     ("permuted", gen::permuted, 120),
     ("faulty", gen::faulty, 60),
     ("dense", gen::dense, 100),
     ("dense_kept_small", gen::dense_kept_small, 60),
-    ("limit_build", gen::limit_build, 60),
-    ("limit_first_close", gen::limit_first_close, 60),
-    ("limit_difference", gen::limit_difference, 60),
-    ("limit_quotient", gen::limit_quotient, 60),
-    ("limit_product", gen::limit_product, 60),
-    ("limit_sum", gen::limit_sum, 60),
-    ("limit_order", gen::limit_order, 60),
 ];
+
+/// How many problems are taken of each kind about the limits.
+const ABOUT_A_LIMIT: usize = 60;
 
 /// How many problems an installed solver has to answer.
 const ANSWERED: usize = 1_000;
@@ -95,7 +92,8 @@ fn problems(seed: u64, times: usize) -> Vec<Problem> {
     let cases = cases::all().into_iter();
     let mut problems: Vec<Problem> =
         cases.filter_map(|case| problem(case.name.to_string(), &case.bytes)).collect();
-    for (kind, make, count) in KINDS {
+    let limits = gen::LIMITS.map(|(kind, make)| (kind, make, ABOUT_A_LIMIT));
+    for (kind, make, count) in KINDS.into_iter().chain(limits) {
         let all = (0..).filter_map(|index| problem(format!("{kind} {index}"), &make(seed, index)));
         problems.extend(all.take(count * times));
     }

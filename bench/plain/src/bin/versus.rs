@@ -53,7 +53,7 @@ fn main() -> Result<ExitCode, Box<dyn Error>> {
 fn request() -> Option<Request> {
     let mut arguments = env::args().skip(1);
     let name = arguments.next()?;
-    let (_, generator) = gen::ALL.into_iter().find(|(known, _)| *known == name)?;
+    let (_, generator) = gen::all().find(|(known, _)| *known == name)?;
     let count = arguments.next()?.parse().ok()?;
     let seed = arguments.next()?.parse().ok()?;
     let solver: Vec<String> = arguments.collect();

@@ -9,18 +9,18 @@ const MOST: usize = 64;
 pub fn all() -> Vec<Shown> {
     let mut all = vec![
         problem("64 terms: f to the 63rd, where f to the 5th and the 3rd are x", |r| {
-            let f = powers(r);
+            let f = r.powers(7, MOST);
             r.assume(f[5], f[0]);
             r.assume(f[3], f[0]);
             r.goal(f[63], f[1]);
         }),
         problem("64 terms: f to the 63rd, where f to the 7th is x", |r| {
-            let f = powers(r);
+            let f = r.powers(7, MOST);
             r.assume(f[7], f[0]);
             r.goal(f[63], f[0]);
         }),
         problem("64 terms: f to the 62nd, where f to the 7th is x", |r| {
-            let f = powers(r);
+            let f = r.powers(7, MOST);
             r.assume(f[7], f[0]);
             r.goal(f[62], f[0]);
         }),
@@ -53,15 +53,6 @@ pub fn all() -> Vec<Shown> {
         all.push(bytes(&format!("congruences, number {index}"), gen::congruent(1, index)));
     }
     all
-}
-
-/// x, f(x) and so on: 64 terms.
-fn powers(r: &mut Record) -> Vec<u8> {
-    let mut terms = vec![r.variable(0)];
-    while terms.len() < MOST {
-        terms.push(r.lookup(7, &[terms[terms.len() - 1]]));
-    }
-    terms
 }
 
 /// Each unknown is the one before plus 1/2, which no ring can be: the last

@@ -42,20 +42,23 @@ fn inputs() -> Vec<Shown> {
     all.push(problem("inputs are compared by row: f(x + y) and f(y + x)", |r| {
         let (x, y) = (r.variable(0), r.variable(0));
         let (one, other) = (r.sum(x, y), r.sum(y, x));
-        let (one, other) = (r.lookup(F, &[one]), r.lookup(F, &[other]));
-        r.goal(one, other);
+        same_lookup(r, one, other);
     }));
     all.push(problem("inputs that are equal constants: f(3/2) and f(6/4)", |r| {
         let (one, other) = (r.constant(3, 1), r.constant(6, 2));
-        let (one, other) = (r.lookup(F, &[one]), r.lookup(F, &[other]));
-        r.goal(one, other);
+        same_lookup(r, one, other);
     }));
     all.push(problem("f(1) and f(2): other constants, other inputs", |r| {
         let (one, other) = (r.constant(1, 0), r.constant(2, 0));
-        let (one, other) = (r.lookup(F, &[one]), r.lookup(F, &[other]));
-        r.goal(one, other);
+        same_lookup(r, one, other);
     }));
     all
+}
+
+/// The goal that f is the same of two terms.
+fn same_lookup(r: &mut Record, one: u8, other: u8) {
+    let (one, other) = (r.lookup(F, &[one]), r.lookup(F, &[other]));
+    r.goal(one, other);
 }
 
 fn exchanged(r: &mut Record, equal: bool) {
@@ -107,8 +110,7 @@ fn repeated() -> Vec<Shown> {
         problem("f of two records of f(x), without an assumption", |r| {
             let x = r.variable(0);
             let (one, other) = (r.lookup(F, &[x]), r.lookup(F, &[x]));
-            let (one, other) = (r.lookup(F, &[one]), r.lookup(F, &[other]));
-            r.goal(one, other);
+            same_lookup(r, one, other);
         }),
         problem("two records of f(x), each with a gain, that add up", |r| {
             let x = r.variable(0);
@@ -120,30 +122,21 @@ fn repeated() -> Vec<Shown> {
     ]
 }
 
-/// x, f(x), f(f(x)) and so on, up to `most` times f.
-fn powers(r: &mut Record, most: usize) -> Vec<u8> {
-    let mut terms = vec![r.variable(0)];
-    for last in 0..most {
-        terms.push(r.lookup(F, &[terms[last]]));
-    }
-    terms
-}
-
 fn chains() -> Vec<Shown> {
     vec![
         problem("x = y closes six times: f to the sixth of both", |r| {
-            let (x, y) = (powers(r, 6), powers(r, 6));
+            let (x, y) = (r.powers(F, 7), r.powers(F, 7));
             r.assume(x[0], y[0]);
             r.goal(x[6], y[6]);
         }),
         problem("six and four times f are x, so two times f is", |r| {
-            let f = powers(r, 6);
+            let f = r.powers(F, 7);
             r.assume(f[6], f[0]);
             r.assume(f[4], f[0]);
             r.goal(f[2], f[0]);
         }),
         problem("six and four times f are x: once f is not forced", |r| {
-            let f = powers(r, 6);
+            let f = r.powers(F, 7);
             r.assume(f[6], f[0]);
             r.assume(f[4], f[0]);
             r.goal(f[1], f[0]);
@@ -168,6 +161,21 @@ fn chains() -> Vec<Shown> {
     ]
 }
 
+/// Lookups of x and of y, each of the one before, that are 1 and 2 where x = y.
+fn opposed(remark: &str, symbols: &[u8]) -> Shown {
+    problem(remark, |r| {
+        let (x, y) = (r.variable(0), r.variable(0));
+        let (mut of_x, mut of_y) = (x, y);
+        for &symbol in symbols {
+            (of_x, of_y) = (r.lookup(symbol, &[of_x]), r.lookup(symbol, &[of_y]));
+        }
+        let (one, two) = (r.constant(1, 0), r.constant(2, 0));
+        r.assume(of_x, one);
+        r.assume(of_y, two);
+        r.assume(x, y);
+    })
+}
+
 fn contradictions() -> Vec<Shown> {
     vec![
         problem("1 = 2", |r| {
@@ -179,30 +187,9 @@ fn contradictions() -> Vec<Shown> {
             let next = r.sum(x, one);
             r.assume(x, next);
         }),
-        problem("x = 1, y = 2, x = y: in the merge of the third", |r| {
-            let (x, y) = (r.variable(0), r.variable(0));
-            let (one, two) = (r.constant(1, 0), r.constant(2, 0));
-            r.assume(x, one);
-            r.assume(y, two);
-            r.assume(x, y);
-        }),
-        problem("f(x) = 1, f(y) = 2, x = y: in the closing after the third", |r| {
-            let (x, y) = (r.variable(0), r.variable(0));
-            let (f_x, f_y) = (r.lookup(F, &[x]), r.lookup(F, &[y]));
-            let (one, two) = (r.constant(1, 0), r.constant(2, 0));
-            r.assume(f_x, one);
-            r.assume(f_y, two);
-            r.assume(x, y);
-        }),
-        problem("g(f(x)) = 1, g(f(y)) = 2, x = y: two steps into the closing", |r| {
-            let (x, y) = (r.variable(0), r.variable(0));
-            let (f_x, f_y) = (r.lookup(F, &[x]), r.lookup(F, &[y]));
-            let (g_x, g_y) = (r.lookup(G, &[f_x]), r.lookup(G, &[f_y]));
-            let (one, two) = (r.constant(1, 0), r.constant(2, 0));
-            r.assume(g_x, one);
-            r.assume(g_y, two);
-            r.assume(x, y);
-        }),
+        opposed("x = 1, y = 2, x = y: in the merge of the third", &[]),
+        opposed("f(x) = 1, f(y) = 2, x = y: in the closing after the third", &[F]),
+        opposed("g(f(x)) = 1, g(f(y)) = 2, x = y: two steps into the closing", &[F, G]),
         problem("a contradiction ends the run: what follows it is not read", |r| {
             let (x, one, two) = (r.variable(0), r.constant(1, 0), r.constant(2, 0));
             r.assume(x, one);

@@ -15,9 +15,9 @@ use Rattle.outcome.specs.Outcome.{PLACES}
 use Rattle.listing.specs.Line.{firstLine, rowLine}
 use Rattle.listing.specs.Listing.{rowLines, Listed, putAt, listRow}
 use Rattle.text.proofs.Placing.{put-at-then, wrote-nothing}
-use Rattle.pieces.specs.Listable.{Listable, rowHeld}
+use Rattle.places.specs.Listable.{Listable, rowHeld}
 use Rattle.lines.specs.Leaves.{reachedOf, leaves, listFirst}
-use Rattle.lines.proofs.Lines.{row-line-length}
+use Rattle.row_line.proofs.Lines.{row-line-length}
 use Rattle.lines.proofs.Refused.{row-listed, first-listed}
 use Rattle.page.specs.Page.{rowsListed, behind, listRows, listPage}
 use Rattle.printed.proofs.Limits.{Limited}

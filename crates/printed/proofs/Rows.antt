@@ -20,8 +20,8 @@ use Rattle.outcome.proofs.Cells.{laid-out-at}
 use Rattle.listing.specs.Text.{ascii, decimal}
 use Rattle.listing.specs.Line.{piece, pieces, orZero, rowLine}
 use Rattle.listing.specs.Listing.{isFraction, allFractions, placesOf}
-use Rattle.pieces.specs.Listable.{Listable, rowHeld}
-use Rattle.pieces.proofs.Places.{places-length, places-at}
+use Rattle.places.specs.Listable.{Listable, rowHeld}
+use Rattle.places.proofs.Places.{places-length, places-at}
 use Rattle.pieces.proofs.Rows.{row-pieces-step}
 use Rattle.printed.proofs.Limits.{Limited}
 

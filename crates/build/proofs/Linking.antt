@@ -1,5 +1,5 @@
 -- The links of one more lookup are noted, and what is linked stays so.
--- Main results: `user-grown`, `user-there`, `grown-then`, `used-more`, `earlier-found`, `head-passed`, `sparse-same`, `grown-traced`, `linked-other`, `linked-lookup`. Assume nothing.
+-- Main results: `user-grown`, `user-there`, `grown-then`, `used-more`, `earlier-found`, `head-passed`, `sparse-same`, `grown-traced`, `linked-other`, `linked-lookup`, `opened-other`, `opened-lookup`, `opened-same`. Assume nothing.
 use mathlib.Core.Path.{_≡_, refl, sym, ap, _∙_}
 use mathlib.Core.Logic.{_⊎_, inl, inr, _≢_}
 use mathlib.Core.Bool.{true, _||_, or-true}
@@ -13,9 +13,9 @@ use lib.ListN.{length, getD, set}
 use lib.Seq.{getD-set-same, getD-set-other}
 use lib.IntN.{ℤ}
 use Rattle.bits.specs.Sets.{holds}
-use Rattle.table.specs.Sparse.{columnsOf, usersOf, earlierOf, Sparse, Linked}
+use Rattle.table.specs.Sparse.{columnsOf, usersOf, earlierOf, openOf, Sparse, Linked}
 use Rattle.table.proofs.Linked.{linked-kept}
-use Rattle.build.specs.Links.{InputsSmall, UsedBelow, Traced, Grown}
+use Rattle.build.specs.Links.{InputsSmall, UsedBelow, Traced, Opened, Grown}
 
 -- A set of users with lookup t added is stored in its place.
 module _ (sets : List ℕ) (place t users : ℕ) (low : 64 ≤ place) (high : place < 128) (there : place < length sets) (told : (k : ℕ) → holds users k ≡ (eqb k t || holds (getD sets place 0) k)) where
@@ -118,3 +118,26 @@ linked-lookup {t} {heads} {inputs} {sets₀} {sets} earlier few sized small grow
 
     own-earlier : (i : ℕ) → i < t → getD heads i 0 ≡ getD heads t 0 → holds (getD (set sets (128 + t) earlier) (128 + t) 0) i ≡ true
     own-earlier i before same = ap (λ s. holds s i) (getD-set-same sets (128 + t) earlier 0 (omega arith)) ∙ found i before same
+
+-- One term more: no lookup, or one that is open.
+opened-more : {t : ℕ} {heads sets₀ sets : List ℕ} → ((k : ℕ) → holds (openOf sets₀) k ≡ true → holds (openOf sets) k ≡ true) → ((getD heads t 0 ≡ 0 → ⊥) → holds (openOf sets) t ≡ true) → Opened t heads sets₀ → Opened (t + 1) heads sets
+opened-more {t} {heads} {sets₀} {sets} kept own opened = record { inside = λ j below lookup. by j below lookup (ℕ-discrete j t) }
+  where
+    by : (j : ℕ) → j < t + 1 → (getD heads j 0 ≡ 0 → ⊥) → Dec (j ≡ t) → holds (openOf sets) j ≡ true
+    by j below lookup (yes at) = rw at (own (λ none. lookup (ap (λ x. getD heads x 0) at ∙ none)))
+    by j below lookup (no other) = kept j (opened .inside j (omega arith) lookup)
+
+pub opened-other : {t : ℕ} {heads sets : List ℕ} → getD heads t 0 ≡ 0 → Opened t heads sets → Opened (t + 1) heads sets
+opened-other {t} {heads} {sets} none = opened-more {sets₀ = sets} (λ k inside. inside) (λ lookup. absurd (lookup none))
+
+pub opened-lookup : {t : ℕ} {heads sets₀ : List ℕ} (sets : List ℕ) (wide : ℕ) → 193 < length sets → getD sets 193 0 ≡ getD sets₀ 193 0 → ((k : ℕ) → holds wide k ≡ (eqb k t || holds (getD sets 193 0) k)) → Opened t heads sets₀ → Opened (t + 1) heads (set sets 193 wide)
+unfolding openOf
+opened-lookup {t} {heads} {sets₀} sets wide place same told =
+    opened-more {sets₀ = sets₀}
+    (λ k inside. ap (λ s. holds s k) (getD-set-same sets 193 wide 0 place) ∙ told k ∙ ap (λ b. eqb k t || b) (ap (λ s. holds s k) same ∙ inside) ∙ or-true (eqb k t))
+    (λ lookup. ap (λ s. holds s t) (getD-set-same sets 193 wide 0 place) ∙ told t ∙ ap (λ b. b || holds (getD sets 193 0) t) (eq-eqb t t refl))
+
+-- The open lookups stay where heads and the set of them do.
+pub opened-same : {n : ℕ} {heads heads′ sets sets′ : List ℕ} → ((j : ℕ) → j < n → getD heads′ j 0 ≡ getD heads j 0) → getD sets′ 193 0 ≡ getD sets 193 0 → Opened n heads sets → Opened n heads′ sets′
+unfolding openOf
+opened-same same-heads same opened = record { inside = λ j below lookup. ap (λ s. holds s j) same ∙ opened .inside j below (λ none. lookup (same-heads j below ∙ none)) }

@@ -1,5 +1,5 @@
 -- The lookups as numbers: one more term is noted.
--- Main results: `below-more`, `no-call`, `calls-noted`, `notes-more`, `inputs-noted`, `linked-noted`. Assume nothing.
+-- Main results: `below-more`, `no-call`, `calls-noted`, `notes-more`, `inputs-noted`, `linked-noted`, `opened-noted`. Assume nothing.
 use mathlib.Core.Path.{_≡_, refl, sym, ap, _∙_}
 use mathlib.Core.List.{List, [], _∷_}
 use mathlib.Core.Option.{none}
@@ -19,7 +19,8 @@ use Rattle.problem.proofs.Kind.{the-type}
 use Rattle.table.specs.Calls.{headOf, inputOf, Calls, NotesKept}
 use Rattle.table.specs.Sparse.{Linked}
 use Rattle.build_rows.specs.Buildable.{Below}
-use Rattle.build.specs.Links.{InputsSmall}
+use Rattle.build.specs.Links.{InputsSmall, Opened}
+use Rattle.build.proofs.Linking.{opened-same}
 use Rattle.table.proofs.Linked.{linked-kept}
 
 -- Inputs below a number are below any larger one.
@@ -143,3 +144,7 @@ module _ (t : ℕ) (kind : Kind) (inputs : List ℕ) {inputs′ : List ℕ} (inp
   pub linked-noted : {heads heads′ sets : List ℕ} → t < 64 → heads′ ≡ set heads t (headOf kind) → InputsSmall t inputs → Linked t heads inputs sets → Linked t heads′ inputs′ sets
   linked-noted {heads} small heads-are before linked =
       linked-kept (omega arith) (λ j k below place. before .small (3 * j + k) (omega arith)) (λ j below. ap (λ l. getD l j 0) heads-are ∙ getD-set-other heads t j (headOf kind) 0 (λ e. omega arith)) noted-before (λ k j low high h. h) linked
+
+-- The call of term t leaves the lookups before it open.
+pub opened-noted : (t : ℕ) (kind : Kind) {heads heads′ sets : List ℕ} → heads′ ≡ set heads t (headOf kind) → Opened t heads sets → Opened t heads′ sets
+opened-noted t kind {heads} heads-are = opened-same (λ j below. ap (λ l. getD l j 0) heads-are ∙ getD-set-other heads t j (headOf kind) 0 (λ e. omega arith)) refl

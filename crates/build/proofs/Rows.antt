@@ -22,11 +22,12 @@ use Rattle.table.specs.declared.Step.the-variants.{Done, Refused}
 use Rattle.table.specs.Held.{listed, rowAt, tableAt, SoundTo, finished}
 use Rattle.table.specs.Loop.{Kept}
 use Rattle.table.specs.Calls.{Calls, NotesKept}
-use Rattle.table.specs.Sparse.{Sparse, Linked, pendingOf, openOf}
+use Rattle.table.specs.Sparse.{Sparse, Linked, pendingOf}
 use Rattle.table.proofs.Columns.{table-length, kept-itself, kept-within, kept-then}
 use Rattle.table.proofs.Turns.{finished-done, finished-refused, refused-not-done}
 use Rattle.build_rows.specs.Built.{RowBuilt}
 use Rattle.build.specs.Built.{TableBuilt}
+use Rattle.build.specs.Links.{Opened}
 use Rattle.build_rows.proofs.Building.{table-kept}
 
 -- One more member stands at the end of a list.
@@ -108,7 +109,7 @@ module _ (terms : List Term) (nums₀ dens₀ : List ℤ) (heads₀ inputs₀ : 
           }
 
   -- All rows are built, and the sets are noted.
-  pub rising-ends : (n : ℕ) {nums dens : List ℤ} {heads inputs sets : List ℕ} → n ≡ length terms → Rising terms n nums₀ dens₀ nums dens heads₀ inputs₀ heads inputs → Sparse n nums sets → Linked n heads inputs sets → ((j : ℕ) → j < 64 → holds (pendingOf sets) j ≡ true) → ((j : ℕ) → j < 64 → holds (openOf sets) j ≡ true) → TableBuilt terms n Done nums₀ dens₀ nums dens heads₀ inputs₀ heads inputs sets
+  pub rising-ends : (n : ℕ) {nums dens : List ℤ} {heads inputs sets : List ℕ} → n ≡ length terms → Rising terms n nums₀ dens₀ nums dens heads₀ inputs₀ heads inputs → Sparse n nums sets → Linked n heads inputs sets → ((j : ℕ) → j < 64 → holds (pendingOf sets) j ≡ true) → Opened n heads sets → TableBuilt terms n Done nums₀ dens₀ nums dens heads₀ inputs₀ heads inputs sets
   unfolding finished built
   rising-ends n {nums} {dens} sized rising sparse linked pending opened =
       record {

@@ -13,7 +13,8 @@ use Rattle.table.specs.declared.Step.the-variants.{Done}
 use Rattle.table.specs.Held.{tableAt, SoundTo, finished}
 use Rattle.table.specs.Loop.{Kept}
 use Rattle.table.specs.Calls.{Calls, NotesKept}
-use Rattle.table.specs.Sparse.{Sparse, Linked, pendingOf, openOf}
+use Rattle.table.specs.Sparse.{Sparse, Linked, pendingOf}
+use Rattle.build.specs.Links.{Opened}
 
 -- The rows of the terms are those that the rule builds, or the rule refuses one of them; no place behind them, or behind what is
 -- noted of the terms, has changed; where all are built, they are sound, the lookups are noted, the sets have room for the rows'
@@ -27,4 +28,4 @@ pub record TableBuilt (terms : List Term) (n : ℕ) (step : Step) (nums₀ dens�
   pub sparse : step ≡ Done → Sparse n nums sets
   pub linked : step ≡ Done → Linked n heads inputs sets
   pub pending : step ≡ Done → (j : ℕ) → j < 64 → holds (pendingOf sets) j ≡ true
-  pub opened : step ≡ Done → (j : ℕ) → j < 64 → holds (openOf sets) j ≡ true
+  pub opened : step ≡ Done → Opened n heads sets

@@ -6,7 +6,6 @@ use crate::call::note_call;
 use crate::links::note_links;
 use build_rows::build_term;
 use parts::term_at;
-use table::OPEN;
 use table::PENDING;
 use table::Step;
 ghost use mathlib.Core.Path.{_≡_};
@@ -49,6 +48,5 @@ pub fn build(
         }
     }
     sets[PENDING] = bits::ALL;
-    sets[OPEN] = bits::ALL;
     Step::Done
 }

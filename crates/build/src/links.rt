@@ -1,6 +1,7 @@
-// The links of a lookup, noted in sets: it uses its inputs, and comes after the lookups of the same function before it. The links
+// The links of a lookup, noted in sets: it uses its inputs, comes after the lookups of the same function before it, and is open. They
 // say which lookups a later step need look at: larger sets would do no harm but to speed.
 use table::EARLIER;
+use table::OPEN;
 use table::USERS;
 ghost use mathlib.Core.Path.{_≡_};
 ghost use mathlib.Core.Bool.{true};
@@ -8,7 +9,7 @@ ghost use Prim.Native.Nat.{ℕ, _+_, _<_};
 ghost use lib.ListN.{length, getD};
 ghost use Rattle.bits.specs.Sets.{holds};
 ghost use Rattle.table.specs.Sparse.{usersOf, Linked};
-ghost use Rattle.build.specs.Links.{InputsSmall, UsedBelow, Traced, Grown};
+ghost use Rattle.build.specs.Links.{InputsSmall, UsedBelow, Traced, Opened, Grown};
 
 // Lookup t uses this input.
 fn note_user(input: u8, t: usize, sets: &mut [u64])
@@ -58,7 +59,9 @@ pub(crate) fn note_links(t: usize, heads: &[u16], inputs: &[u8], sets: &mut [u64
     requires { ⌜ (t < 64) × (length (now heads) ≡ 64) × (length (now inputs) ≡ 192) × (length (now sets) ≡ 194) ⌝ }
     requires { ⌜ InputsSmall (t + 1) (now inputs) ⌝ }
     requires { ⌜ Linked t (now heads) (now inputs) (now sets) ⌝ }
+    requires { ⌜ Opened t (now heads) (now sets) ⌝ }
     ensures { λ r. ⌜ Linked (t + 1) (now (heads .entry)) (now (inputs .entry)) (now (sets .exit)) ⌝ }
+    ensures { λ r. ⌜ Opened (t + 1) (now (heads .entry)) (now (sets .exit)) ⌝ }
     ensures { λ r. ⌜ ((k : ℕ) → k < 64 → getD (now (sets .exit)) k 0 ≡ getD (now (sets .entry)) k 0) ⌝ }
 {
     if heads[t] == 0 {
@@ -66,5 +69,7 @@ pub(crate) fn note_links(t: usize, heads: &[u16], inputs: &[u8], sets: &mut [u64
     }
     note_users(t, inputs, sets);
     let earlier = earlier_of(heads, sets, t);
+    let open = bits::with(sets[OPEN], t);
     sets[EARLIER + t] = earlier;
+    sets[OPEN] = open;
 }

@@ -13,7 +13,6 @@ use lib.ListN.{length, getD, set, length-set}
 use lib.Seq.{getD-set-same, getD-set-other}
 use lib.IntN.{ℤ}
 use Rattle.bits.specs.Sets.{holds}
-use Rattle.bits.proofs.Digits.{holds-none}
 use Rattle.fraction.specs.Made.{made}
 use Rattle.problem.specs.declared.Term.{Term}
 use Rattle.run.specs.Row.{Table, sameRow}
@@ -25,13 +24,13 @@ use Rattle.invariant.proofs.Keeps.{merge-keeps-equal}
 use Rattle.invariant.proofs.Meets.{merge-meets}
 use Rattle.invariant.proofs.Rows.{sameRows-equal}
 use Rattle.table.specs.Held.{tableAt}
-use Rattle.table.specs.Sparse.{Within, columnsOf, earlierOf, pendingOf, openOf, Sparse, Linked, Stirred}
-use Rattle.due.specs.Found.{Lookups, InputsBelow, Twin, Looked, Finds, Watched, Awake}
+use Rattle.table.specs.Sparse.{Within, columnsOf, pendingOf, openOf, Sparse, Linked, Stirred}
+use Rattle.due.specs.Found.{Lookups, InputsBelow, Twin, Shut, Waits, Looked, Finds, Watched, Awake}
 use Rattle.due.proofs.Heads.{due-heads}
-use Rattle.due.proofs.Twins.{rows-kept, twin-kept}
+use Rattle.due.proofs.Twins.{rows-kept, shut-kept}
 use Rattle.due.proofs.Woken.{linked-kept, stirred-finds}
 use Rattle.close.specs.Ready.{Ready}
-use Rattle.close.specs.Woken.{isWoken, Woken}
+use Rattle.close.specs.Woken.{Woken}
 
 module _ {n : ℕ} {heads inputs : List ℕ} (few : n ≤ 64) (inputs-below : InputsBelow n inputs) {nums : List ℤ} {sets : List ℕ} (ready : Ready n nums heads inputs sets) where
   -- A merge keeps the links, and notes the columns of the rows that it changes.
@@ -91,14 +90,14 @@ module _ {terms : List Term} {n : ℕ} {heads inputs : List ℕ} {nums dens nums
   merged-awake awake =
       record {
         found = finds-on [] (awake .found);
-        twins = λ j below out. let (i, twin) = awake .twins j below (ap (λ s. holds s j) (sym same-open) ∙ out) in (i, twin-kept stay twin);
+        others = λ j below out. shut-kept stay (awake .others j below (ap (λ s. holds s j) (sym same-open) ∙ out));
       }
 
   -- In closing the right side of the pair due is shut before the merge, which makes it a twin of the left side.
   pub shut-watched : (waiting : List ℕ) {sets₁ : List ℕ} (shut : ℕ) → length sets₁ ≡ 194 → sets ≡ set sets₁ 193 shut → ((k : ℕ) → holds shut k ≡ (not (eqb k right) && holds (openOf sets₁) k)) → Due terms (tableAt n nums dens) left right → Watched waiting terms n (tableAt n nums dens) sets₁ → Watched waiting terms n (tableAt n nums′ dens′) sets′
   unfolding openOf pendingOf
   shut-watched waiting {sets₁} shut size stored told due watched =
-      record { found = finds-on waiting still; twins = λ j below out. by j below (shut-cases (eqb j right) (holds (openOf sets₁) j) (sym (told j) ∙ ap (λ s. holds s j) (sym now-shut ∙ sym same-open) ∙ out)) }
+      record { found = finds-on waiting still; others = λ j below out. by j below (shut-cases (eqb j right) (holds (openOf sets₁) j) (sym (told j) ∙ ap (λ s. holds s j) (sym now-shut ∙ sym same-open) ∙ out)) }
     where
       now-shut : getD sets 193 0 ≡ shut
       now-shut = ap (λ s. getD s 193 0) stored ∙ getD-set-same sets₁ 193 shut 0 (omega arith)
@@ -120,28 +119,31 @@ module _ {terms : List Term} {n : ℕ} {heads inputs : List ℕ} {nums dens nums
       merged : Twin terms (tableAt n nums′ dens′) left right
       merged = record { before = due .before; similar = T-true _ (due .similar); inputs = rows-kept _ _ stay _ _ (sameRows-equal (tableAt n nums dens) _ _ .1 (due .inputs)); own = merge-meets byNumber _ _ left right goes-on }
 
-      by : (j : ℕ) → j < n → (eqb j right ≡ true) ⊎ (holds (openOf sets₁) j ≡ false) → (i : ℕ) × Twin terms (tableAt n nums′ dens′) i j
-      by j below (inl same) = (left, subst (Twin terms (tableAt n nums′ dens′) left) (sym (eqb-same j right same)) merged)
-      by j below (inr out) = let (i, twin) = watched .twins j below out in (i, twin-kept stay twin)
+      by : (j : ℕ) → j < n → (eqb j right ≡ true) ⊎ (holds (openOf sets₁) j ≡ false) → Shut terms (tableAt n nums′ dens′) j
+      by j below (inl same) = inr (left, subst (Twin terms (tableAt n nums′ dens′) left) (sym (eqb-same j right same)) merged)
+      by j below (inr out) = shut-kept stay (watched .others j below out)
 
 -- The pairs of pending lookups wait.
-pub woken-watched : {terms : List Term} {n : ℕ} {table : Table} {heads inputs sets₀ sets : List ℕ} (waiting₀ waiting : List ℕ) → Lookups terms n heads inputs → Linked n heads inputs sets₀ → Woken n sets₀ sets waiting₀ waiting → Watched waiting₀ terms n table sets₀ → Watched waiting terms n table sets
+pub woken-watched : {terms : List Term} {n : ℕ} {table : Table} {heads inputs sets₀ sets : List ℕ} (waiting₀ waiting : List ℕ) → n ≤ 64 → Lookups terms n heads inputs → Linked n heads inputs sets₀ → Woken n sets₀ sets waiting₀ waiting → Watched waiting₀ terms n table sets₀ → Watched waiting terms n table sets
 unfolding openOf
-woken-watched {terms} {n} {table} {heads} {inputs} {sets₀} {sets} waiting₀ waiting lookups linked woken watched =
+woken-watched {terms} {n} {table} {heads} {inputs} {sets₀} {sets} waiting₀ waiting few lookups linked woken watched =
     record {
-      found = λ i j before below is i-open j-open. inl (woken .waits i j below ∙ by i j before below is (watched .found i j before below is (ap (λ s. holds s i) (sym same-open) ∙ i-open) (ap (λ s. holds s j) (sym same-open) ∙ j-open)));
-      twins = λ j below out. watched .twins j below (ap (λ s. holds s j) (sym same-open) ∙ out);
+      found = λ i j before below is i-open j-open.
+          let was-open = ap (λ s. holds s i) (sym same-open) ∙ i-open in
+          let right-open = ap (λ s. holds s j) (sym same-open) ∙ j-open in
+          inl (by i j before below is was-open right-open (watched .found i j before below is was-open right-open));
+      others = λ j below out. watched .others j below (ap (λ s. holds s j) (sym same-open) ∙ out);
     }
   where
     same-open : getD sets 193 0 ≡ getD sets₀ 193 0
     same-open = woken .others 193 (λ e. omega arith)
 
-    noted : (i j : ℕ) → i < j → j < n → isDue terms table i j ≡ true → (holds (pendingOf sets₀) i || holds (pendingOf sets₀) j) ≡ true → (holds (getD waiting₀ j 0) i || isWoken sets₀ i j) ≡ true
-    noted i j before below is stirred =
+    noted : (i j : ℕ) → i < j → j < n → isDue terms table i j ≡ true → holds (openOf sets₀) i ≡ true → holds (openOf sets₀) j ≡ true → (holds (pendingOf sets₀) i || holds (pendingOf sets₀) j) ≡ true → Waits waiting i j
+    noted i j before below is left right stirred =
         let one = due-heads terms n heads inputs lookups table i j (omega arith) below is in
-        ap (λ b. holds (getD waiting₀ j 0) i || b) (ap₂ _&&_ (linked .earlier i j before below (one .0) (one .1)) stirred) ∙ or-true (holds (getD waiting₀ j 0) i)
+        woken .adds i j below right (ap₂ _&&_ (ap₂ _&&_ (linked .earlier i j before below (one .0) (one .1)) left) stirred)
 
-    by : (i j : ℕ) → i < j → j < n → isDue terms table i j ≡ true → Looked waiting₀ sets₀ i j → (holds (getD waiting₀ j 0) i || isWoken sets₀ i j) ≡ true
-    by i j before below is (inl waits) = ap (λ b. b || isWoken sets₀ i j) waits
-    by i j before below is (inr (inl left)) = noted i j before below is (ap (λ b. b || holds (pendingOf sets₀) j) left)
-    by i j before below is (inr (inr right)) = noted i j before below is (ap (λ b. holds (pendingOf sets₀) i || b) right ∙ or-true (holds (pendingOf sets₀) i))
+    by : (i j : ℕ) → i < j → j < n → isDue terms table i j ≡ true → holds (openOf sets₀) i ≡ true → holds (openOf sets₀) j ≡ true → Looked waiting₀ sets₀ i j → Waits waiting i j
+    by i j before below is left right (inl waits) = woken .grown .keeps i j (omega arith) waits
+    by i j before below is left right (inr (inl first)) = noted i j before below is left right (ap (λ b. b || holds (pendingOf sets₀) j) first)
+    by i j before below is left right (inr (inr second)) = noted i j before below is left right (ap (λ b. holds (pendingOf sets₀) i || b) second ∙ or-true (holds (pendingOf sets₀) i))

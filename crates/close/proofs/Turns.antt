@@ -80,7 +80,7 @@ pub record Turned (n solved : ℕ) (heads inputs : List ℕ) (nums₀ dens₀ : 
 pub closing-idle : {n : ℕ} (solved : ℕ) {heads inputs : List ℕ} {nums dens : List ℤ} {sets : List ℕ} → SoundTo (65 * n) nums dens → Ready n nums heads inputs sets → pendingOf sets ≡ 0 → Ended n solved heads inputs nums dens sets (Going solved) nums dens sets
 unfolding close closed Counted WhileOpen
 closing-idle {n} solved {nums = nums} {dens} sound ready asleep = (
-  λ terms lookups awake. turn byNumber terms (stateAt n nums dens solved) (length terms) none (none-waiting awake (lookups .count) asleep (λ i j. holds-none i)),
+  λ terms lookups awake. turn byNumber terms (stateAt n nums dens solved) (length terms) none (none-waiting awake (lookups .count) asleep (λ i j waits. false≢true (sym (holds-none i) ∙ waits .left))),
   (record { nums-length = refl; dens-length = refl; outside = λ k out. refl }, (sound, (omega arith, (ready, λ terms lookups awake. awake)))),
 )
 
@@ -93,11 +93,11 @@ closing-starts n solved heads inputs nums dens sets waiting sound ready =
       sound = sound;
       counted = omega arith;
       ready = ready;
-      watched = λ terms lookups awake. record { found = λ i j before below is i-open j-open. by i j (awake .found i j before below is i-open j-open); twins = awake .twins };
+      watched = λ terms lookups awake. record { found = λ i j before below is i-open j-open. by i j (awake .found i j before below is i-open j-open); others = awake .others };
     }
   where
     by : (i j : ℕ) → Looked [] sets i j → Looked waiting sets i j
-    by i j (inl none-waits) = absurd (false≢true (sym (holds-none i) ∙ none-waits))
+    by i j (inl none-waits) = absurd (false≢true (sym (holds-none i) ∙ none-waits .left))
     by i j (inr stirred) = inr stirred
 
 module _ {n solved : ℕ} {heads inputs : List ℕ} {nums₀ dens₀ : List ℤ} {sets₀ : List ℕ} {count turns : ℕ} {nums dens : List ℤ} {sets waiting : List ℕ} (few : n ≤ 64) (inputs-below : InputsBelow n inputs) (closing : Closing n solved heads inputs nums₀ dens₀ sets₀ count turns nums dens sets waiting) where
@@ -118,7 +118,7 @@ module _ {n solved : ℕ} {heads inputs : List ℕ} {nums₀ dens₀ : List ℤ}
               omega (arith, closing .counted),
               (
                 ready-kept few inputs-below (closing .ready) (length-set sets 192 all) (λ k low. other k (λ e. omega arith)),
-                λ terms lookups awake. pending-awake few (λ k low. ap (λ s. holds s k) (getD-set-same sets 192 all 0 place) ∙ holds-all k low) (λ j below out. closing .watched terms lookups awake .twins j below (ap (λ s. holds s j) (sym (other 193 (λ e. omega arith))) ∙ out)),
+                λ terms lookups awake. pending-awake few (λ k low. ap (λ s. holds s k) (getD-set-same sets 192 all 0 place) ∙ holds-all k low) (λ j below out. closing .watched terms lookups awake .others j below (ap (λ s. holds s j) (sym (other 193 (λ e. omega arith))) ∙ out)),
               ),
             ),
           ),
@@ -135,7 +135,7 @@ module _ {n solved : ℕ} {heads inputs : List ℕ} {nums₀ dens₀ : List ℤ}
     served = ready-woken few inputs-below (closing .ready) waiting waiting₁ woken
 
     looked : (terms : List Term) → Lookups terms n heads inputs → Awake terms n (tableAt n nums₀ dens₀) sets₀ → (due terms (tableAt n nums dens) ≡ pairOf found) × Watched waiting₂ terms n (tableAt n nums dens) sets₁
-    looked terms lookups awake = is-due terms lookups (woken-watched waiting waiting₁ lookups (closing .ready .linked) woken (closing .watched terms lookups awake))
+    looked terms lookups awake = is-due terms lookups (woken-watched waiting waiting₁ few lookups (closing .ready .linked) woken (closing .watched terms lookups awake))
 
     step : (terms : List Term) (lookups : Lookups terms n heads inputs) → Awake terms n (tableAt n nums₀ dens₀) sets₀ → (pair : Option Pair) → pairOf found ≡ pair → close byNumber terms (stateAt n nums₀ dens₀ solved) ≡ elim pair [ none ↦ made (stateAt n nums dens count) | some p ↦ merge byNumber (p .left) (p .right) (stateAt n nums dens count) >>= closeFor (turns - 1) byNumber terms ]
     step terms lookups awake pair e =

@@ -1,60 +1,92 @@
 -- Pairs noted right side by right side.
--- Main results: `Waking`, `waking-starts`, `waking-more`, `woken-ends`, `woken-idle`. Assume nothing.
+-- Main results: `grown-itself`, `grown-then`, `right-noted`, `Waking`, `waking-skips`, `woken-ends`, `woken-idle`. Assume nothing.
 use mathlib.Core.Path.{_≡_, refl, sym, ap, ap₂, _∙_}
-use mathlib.Core.Logic.{_≢_}
-use mathlib.Core.Bool.{false, _&&_, _||_, and-false, or-false}
+use mathlib.Core.Bool.{true, false, _&&_, _||_, false≢true, and-false, or-true}
 use mathlib.Core.List.{List}
 use Prim.Native.Nat.{ℕ, _+_, _≤_, _<_}
-use native.Mathlib.Decide.{ℕ-discrete}
+use native.Mathlib.Decide.{ℕ-discrete, decLt}
 use native.Mathlib.Omega.{arith}
+use borrow.Author.Tests.{eq-eqb}
+use lib.Dec.{eqb}
 use lib.ListN.{length, getD, set, length-set}
 use lib.Seq.{getD-set-same, getD-set-other}
-use Rattle.bits.specs.Sets.{holds}
+use Rattle.bits.specs.Sets.{holds, Next}
 use Rattle.bits.proofs.Digits.{holds-none}
-use Rattle.table.specs.Sparse.{earlierOf, pendingOf}
-use Rattle.close.specs.Woken.{isWoken, Woken}
+use Rattle.table.specs.Sparse.{earlierOf, pendingOf, openOf}
+use Rattle.due.specs.Found.{Waits}
+use Rattle.close.specs.Woken.{isWoken, Grown, Woken}
 
--- The right sides below j are noted, the others as they were.
+pub grown-itself : (waiting : List ℕ) → Grown waiting waiting
+grown-itself waiting = record { same-length = refl; keeps = λ i j below waits. waits }
+
+pub grown-then : {first second third : List ℕ} → Grown first second → Grown second third → Grown first third
+grown-then one two = record { same-length = two .same-length ∙ one .same-length; keeps = λ i j below waits. two .keeps i j below (one .keeps i j below waits) }
+
+-- The two stores for right side j: its left sides, and that there are any.
+module _ (waiting : List ℕ) (j lefts rights woken : ℕ) (place : j < 64) (long : 65 ≤ length waiting)
+    (union : (i : ℕ) → holds lefts i ≡ (holds (getD waiting j 0) i || holds woken i)) (more : (k : ℕ) → holds rights k ≡ (eqb k j || holds (getD waiting 64 0) k)) where
+  abbrev after : List ℕ
+  after = set (set waiting j lefts) 64 rights
+
+  at-last : getD after 64 0 ≡ rights
+  at-last = getD-set-same (set waiting j lefts) 64 rights 0 (omega (arith, length-set waiting j lefts))
+
+  at-right : getD after j 0 ≡ lefts
+  at-right = getD-set-other (set waiting j lefts) 64 j rights 0 (λ e. omega arith) ∙ getD-set-same waiting j lefts 0 (omega arith)
+
+  pub right-noted : Grown waiting after × ((i : ℕ) → holds woken i ≡ true → Waits after i j)
+  right-noted = (
+    record { same-length = length-set (set waiting j lefts) 64 rights ∙ length-set waiting j lefts; keeps = λ i k below waits. record { left = by i k below waits (ℕ-discrete k j); right = ap (λ s. holds s k) at-last ∙ more k ∙ ap (λ b. eqb k j || b) (waits .right) ∙ or-true (eqb k j) } },
+    λ i inside. record {
+      left = ap (λ s. holds s i) at-right ∙ union i ∙ ap (λ b. holds (getD waiting j 0) i || b) inside ∙ or-true (holds (getD waiting j 0) i);
+      right = ap (λ s. holds s j) at-last ∙ more j ∙ ap (λ b. b || holds (getD waiting 64 0) j) (eq-eqb j j refl);
+    },
+  )
+    where
+      by : (i k : ℕ) → k < 64 → Waits waiting i k → Dec (k ≡ j) → holds (getD after k 0) i ≡ true
+      by i k below waits (yes here) = ap (λ x. holds (getD after x 0) i) here ∙ ap (λ s. holds s i) at-right ∙ union i ∙ ap (λ b. b || holds woken i) (ap (λ x. holds (getD waiting x 0) i) (sym here) ∙ waits .left)
+      by i k below waits (no other) = ap (λ s. holds s i) (getD-set-other (set waiting j lefts) 64 k rights 0 (λ e. omega arith) ∙ getD-set-other waiting j k lefts 0 other) ∙ waits .left
+
+-- The open right sides below j are noted.
 pub record Waking (sets waiting₀ : List ℕ) (j : ℕ) (waiting : List ℕ) : Type 0 where
-  pub same-length : length waiting ≡ length waiting₀
-  pub below : (i k : ℕ) → k < j → holds (getD waiting k 0) i ≡ (holds (getD waiting₀ k 0) i || isWoken sets i k)
-  pub beyond : (k : ℕ) → j ≤ k → getD waiting k 0 ≡ getD waiting₀ k 0
+  pub grown : Grown waiting₀ waiting
+  pub adds : (i k : ℕ) → k < j → k < 64 → holds (openOf sets) k ≡ true → isWoken sets i k ≡ true → Waits waiting i k
 
-pub waking-starts : (sets waiting : List ℕ) → Waking sets waiting 0 waiting
-waking-starts sets waiting = record { same-length = refl; below = λ i k low. absurd (omega arith); beyond = λ k high. refl }
-
-pub waking-more : {sets waiting₀ waiting : List ℕ} (j woken : ℕ) → j < length waiting → ((i : ℕ) → holds woken i ≡ (holds (getD waiting j 0) i || isWoken sets i j)) → Waking sets waiting₀ j waiting → Waking sets waiting₀ (j + 1) (set waiting j woken)
-waking-more {sets} {waiting₀} {waiting} j woken place told waking =
-    record {
-      same-length = length-set waiting j woken ∙ waking .same-length;
-      below = λ i k low. by i k low (ℕ-discrete k j);
-      beyond = λ k high. getD-set-other waiting j k woken 0 (λ e. omega arith) ∙ waking .beyond k (omega arith);
-    }
+-- Right sides that are not open need no turn.
+pub waking-skips : {sets waiting₀ waiting : List ℕ} {from on : ℕ} → Next (openOf sets) from on → Waking sets waiting₀ from waiting → Waking sets waiting₀ on waiting
+waking-skips {sets} {waiting₀} {waiting} {from} {on} next waking = record { grown = waking .grown; adds = λ i k low small inside. by i k low small inside (decLt k from) }
   where
-    by : (i k : ℕ) → k < j + 1 → Dec (k ≡ j) → holds (getD (set waiting j woken) k 0) i ≡ (holds (getD waiting₀ k 0) i || isWoken sets i k)
-    by i k low (yes here) =
-        rw here
-        (ap (λ s. holds s i) (getD-set-same waiting j woken 0 place) ∙ told i ∙ ap (λ s. holds s i || isWoken sets i j) (waking .beyond j (omega arith)))
-    by i k low (no other) = ap (λ s. holds s i) (getD-set-other waiting j k woken 0 other) ∙ waking .below i k (omega arith)
+    by : (i k : ℕ) → k < on → k < 64 → holds (openOf sets) k ≡ true → Dec (k < from) → isWoken sets i k ≡ true → Waits waiting i k
+    by i k low small inside (yes before) = waking .adds i k before small inside
+    by i k low small inside (no after) = absurd (false≢true (sym (next .none-between k (omega arith) low) ∙ inside))
+
+pub waking-more : {sets waiting₀ waiting waiting′ : List ℕ} (j : ℕ) → Grown waiting waiting′ → ((i : ℕ) → isWoken sets i j ≡ true → Waits waiting′ i j) → Waking sets waiting₀ j waiting → Waking sets waiting₀ (j + 1) waiting′
+waking-more {sets} {waiting₀} {waiting} {waiting′} j grown here waking =
+    record { grown = grown-then (waking .grown) grown; adds = λ i k low small inside. by i k low small inside (ℕ-discrete k j) }
+  where
+    by : (i k : ℕ) → k < j + 1 → k < 64 → holds (openOf sets) k ≡ true → Dec (k ≡ j) → isWoken sets i k ≡ true → Waits waiting′ i k
+    by i k low small inside (yes now) is = rw now (here i (ap (isWoken sets i) (sym now) ∙ is))
+    by i k low small inside (no other) is = grown .keeps i k small (waking .adds i k (omega arith) small inside is)
 
 -- All are noted, and none is pending any more.
-pub woken-ends : {sets waiting₀ waiting : List ℕ} (n : ℕ) {end : ℕ} → n ≤ end → 192 < length sets → Waking sets waiting₀ end waiting → Woken n sets (set sets 192 0) waiting₀ waiting
+pub woken-ends : {sets waiting₀ waiting : List ℕ} (n : ℕ) {end : ℕ} → n ≤ end → n ≤ 64 → 192 < length sets → Waking sets waiting₀ end waiting → Woken n sets (set sets 192 0) waiting₀ waiting
 unfolding pendingOf
-woken-ends {sets} n all place waking =
+woken-ends {sets} n all few place waking =
     record {
       same-length = length-set sets 192 0;
       asleep = getD-set-same sets 192 0 0 place;
       others = λ k apart. getD-set-other sets 192 k 0 0 apart;
-      waits = λ i j low. waking .below i j (omega arith);
+      grown = waking .grown;
+      adds = λ i j low. waking .adds i j (omega arith) (omega arith);
     }
 
 -- None was pending.
 pub woken-idle : (n : ℕ) {sets : List ℕ} (waiting : List ℕ) → pendingOf sets ≡ 0 → Woken n sets sets waiting waiting
 woken-idle n {sets} waiting asleep =
-    record { same-length = refl; asleep = asleep; others = λ k apart. refl; waits = λ i j low. sym (ap (λ b. holds (getD waiting j 0) i || b) (never i j) ∙ or-false (holds (getD waiting j 0) i)) }
+    record { same-length = refl; asleep = asleep; others = λ k apart. refl; grown = grown-itself waiting; adds = λ i j low inside is. absurd (false≢true (sym (never i j) ∙ is)) }
   where
     none : (k : ℕ) → holds (pendingOf sets) k ≡ false
     none k = ap (λ s. holds s k) asleep ∙ holds-none k
 
     never : (i j : ℕ) → isWoken sets i j ≡ false
-    never i j = ap₂ (λ a b. holds (earlierOf sets j) i && (a || b)) (none i) (none j) ∙ and-false (holds (earlierOf sets j) i)
+    never i j = ap₂ (λ a b. (holds (earlierOf sets j) i && holds (openOf sets) i) && (a || b)) (none i) (none j) ∙ and-false (holds (earlierOf sets j) i && holds (openOf sets) i)

@@ -3,8 +3,8 @@ mod wake;
 
 use crate::wake::wake;
 use due::Due;
+use due::RIGHTS;
 use merge::Merged;
-use problem::TERMS;
 use table::OPEN;
 use table::PENDING;
 ghost use mathlib.Core.Path.{_≡_};
@@ -56,7 +56,7 @@ pub fn close(
     if sets[PENDING] == 0 {
         return Closed::Going(solved);
     }
-    let mut waiting = [0u64; TERMS];
+    let mut waiting = [0u64; RIGHTS + 1];
     let mut count = solved;
     let mut turns = n + 1;
     while 0 < turns {

@@ -1,18 +1,22 @@
 // The pairs that closing compares: noted for each right side as the set of its left sides.
+use due::RIGHTS;
 use table::EARLIER;
+use table::OPEN;
 use table::PENDING;
 ghost use mathlib.Core.Path.{_≡_};
+ghost use mathlib.Core.Bool.{true};
 ghost use Prim.Native.Nat.{ℕ, _<_, _≤_};
 ghost use lib.ListN.{length};
 ghost use Rattle.bits.specs.Sets.{holds};
-ghost use Rattle.close.specs.Woken.{isWoken, Woken};
+ghost use Rattle.due.specs.Found.{Waits};
+ghost use Rattle.close.specs.Woken.{isWoken, Grown, Woken};
 
-// The lookups before j that j is compared with: those of its function, all of them if j is pending, else those that are.
+// The open lookups before j that j is compared with: those of its function, all of them if j is pending, else those that are.
 fn candidates(sets: &[u64], j: usize) -> u64
     requires { ⌜ (j < 64) × (194 ≤ length (now sets)) ⌝ }
     ensures { λ r. ⌜ ((i : ℕ) → holds r i ≡ isWoken (now (sets .entry)) i j) ⌝ }
 {
-    let earlier = sets[EARLIER + j];
+    let earlier = bits::common(sets[EARLIER + j], sets[OPEN]);
     let pending = sets[PENDING];
     if bits::has(pending, j) {
         return earlier;
@@ -20,19 +24,35 @@ fn candidates(sets: &[u64], j: usize) -> u64
     bits::common(earlier, pending)
 }
 
-// Every pair with a pending side waits from now on.
+// Of right side j, every pair with a pending side waits from now on.
+fn wake_right(sets: &[u64], waiting: &mut [u64], j: usize)
+    requires { ⌜ (j < 64) × (194 ≤ length (now sets)) × (65 ≤ length (now waiting)) ⌝ }
+    ensures { λ r. ⌜ Grown (now (waiting .entry)) (now (waiting .exit)) ⌝ }
+    ensures { λ r. ⌜ ((i : ℕ) → isWoken (now (sets .entry)) i j ≡ true → Waits (now (waiting .exit)) i j) ⌝ }
+{
+    let woken = candidates(sets, j);
+    if woken == 0 {
+        return;
+    }
+    let lefts = bits::union(waiting[j], woken);
+    let rights = bits::with(waiting[RIGHTS], j);
+    waiting[j] = lefts;
+    waiting[RIGHTS] = rights;
+}
+
+// Every pair of open lookups with a pending side waits from now on.
 pub(crate) fn wake(n: usize, sets: &mut [u64], waiting: &mut [u64])
-    requires { ⌜ (n ≤ 64) × (194 ≤ length (now sets)) × (64 ≤ length (now waiting)) ⌝ }
+    requires { ⌜ (n ≤ 64) × (194 ≤ length (now sets)) × (65 ≤ length (now waiting)) ⌝ }
     ensures { λ r. ⌜ Woken n (now (sets .entry)) (now (sets .exit)) (now (waiting .entry)) (now (waiting .exit)) ⌝ }
 {
     if sets[PENDING] == 0 {
         return;
     }
-    let mut j: usize = 0;
+    let open = sets[OPEN];
+    let mut j = bits::next(open, 0);
     while j < n {
-        let woken = bits::union(waiting[j], candidates(sets, j));
-        waiting[j] = woken;
-        j += 1;
+        wake_right(sets, waiting, j);
+        j = bits::next(open, j + 1);
     }
     sets[PENDING] = 0;
 }

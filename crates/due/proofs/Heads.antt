@@ -1,5 +1,5 @@
 -- Lookups as numbers: heads tell functions apart, and three places hold the inputs.
--- Main results: `no-lookup`, `one-head`, `inputs-below`, `due-alike`, `due-unlike`, `alike-due`, `due-heads`. Assume nothing.
+-- Main results: `no-call`, `no-lookup`, `one-head`, `inputs-below`, `due-alike`, `due-unlike`, `alike-due`, `due-heads`. Assume nothing.
 use mathlib.Core.Path.{_≡_, refl, sym, ap, ap₂, _∙_, subst}
 use mathlib.Core.Bool.{Bool, true, false, not, _&&_, false≢true, and-eq-true-iff, and-true}
 use mathlib.Core.List.{List, [], _∷_}
@@ -73,7 +73,16 @@ head-one (some f) (some g) s p q h = same-truth (eqb (headBy (some f)) (headBy (
         let lengths = eqb-true (length (f .inputs)) (length (g .inputs)) (both .1) in
         eq-eqb (headBy (some f)) (headBy (some g)) (omega arith)
 
--- A term with the head 0 is alike no other.
+-- A term with the head 0 is no lookup.
+pub no-call : (k : Kind) → headOf k ≡ 0 → callOf k ≡ none
+unfolding headOf
+no-call k = by (callOf k) (sized k)
+  where
+    by : (f : Option Call) → Sized f → headBy f ≡ 0 → f ≡ none
+    by none s e = refl
+    by (some f) s e = absurd (omega arith)
+
+-- So it is alike no other.
 pub no-lookup : (k l : Kind) → headOf k ≡ 0 → alike k l ≡ false
 unfolding headOf alike
 no-lookup k l = head-none (callOf k) (callOf l) (sized k)

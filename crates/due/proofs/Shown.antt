@@ -79,4 +79,4 @@ shown-linked =
 
 pub shown-awake : (table : Table) → Awake terms 3 table sets
 unfolding pendingOf openOf
-shown-awake table = all-awake terms 3 table (omega arith) (λ k below. holds-each 192 k (omega arith) below) (λ k below. holds-each 193 k (omega arith) below)
+shown-awake table = all-awake table shown-lookups (omega arith) (λ k below. holds-each 192 k (omega arith) below) (λ j below lookup. holds-each 193 j (omega arith) (omega arith))

@@ -1,6 +1,7 @@
 -- Congruent lookups: a pair due with the later of two twins has one that comes first, with the earlier.
--- Main results: `due-parts`, `rows-kept`, `twin-kept`, `twin-left`, `twin-right`. Assume nothing.
+-- Main results: `due-parts`, `rows-kept`, `twin-kept`, `shut-kept`, `twin-left`, `twin-right`, `due-calls`. Assume nothing.
 use mathlib.Core.Path.{_≡_, refl, sym, ap, _∙_}
+use mathlib.Core.Logic.{inl, inr}
 use mathlib.Core.Bool.{Bool, true, false, not, _&&_, false≢true, and-eq-true-iff}
 use mathlib.Core.List.{List, [], _∷_}
 use mathlib.Core.Option.{Option, some, none}
@@ -16,7 +17,7 @@ use Rattle.problem.specs.Lookup.{Call, callOf, inputsOf, sameFunction, alike, k
 use Rattle.run.specs.Row.{Table, sameRow}
 use Rattle.run.specs.Close.{sameRows, isDue}
 use Rattle.invariant.proofs.Rows.{sameRow-equal}
-use Rattle.due.specs.Found.{Twin}
+use Rattle.due.specs.Found.{Twin, Shut}
 
 -- Lookups of one function: both ways, and one after another.
 function-back : (f g : Option Call) → sameFunction f g ≡ true → sameFunction g f ≡ true
@@ -96,6 +97,20 @@ pub twin-kept : {terms : List Term} {table after : Table} → ((t u : ℕ) → s
 twin-kept {table = table} {after} stay twin =
     record { before = twin .before; similar = twin .similar; inputs = rows-kept table after stay _ _ (twin .inputs); own = stay _ _ (twin .own) }
 
+pub shut-kept : {terms : List Term} {table after : Table} → ((t u : ℕ) → sameRow table t u ≡ true → sameRow after t u ≡ true) → {j : ℕ} → Shut terms table j → Shut terms after j
+shut-kept stay (inl no-lookup) = inl no-lookup
+shut-kept stay (inr (i, twin)) = inr (i, twin-kept stay twin)
+
+-- Nothing is alike what is no lookup.
+none-alike : (f g : Option Call) → sameFunction f g ≡ true → (f ≡ none → ⊥) × (g ≡ none → ⊥)
+unfolding sameFunction
+none-alike none g e = absurd (false≢true e)
+none-alike (some f) none e = absurd (false≢true e)
+none-alike (some f) (some g) e = (some-not-none, some-not-none)
+  where
+    some-not-none : {A : Type 0} {a : A} → _≡_ {A = Option A} (some a) none → ⊥
+    some-not-none e = let no-way : _≡_ {A = ℕ} 0 1 = cc in absurd (omega arith)
+
 module _ (terms : List Term) (table : Table) where
   -- what makes a pair due
   pub due-parts : (i j : ℕ) → isDue terms table i j ≡ true → (alike (kindAt terms i) (kindAt terms j) ≡ true) × (sameRows table (inputsOf (kindAt terms i)) (inputsOf (kindAt terms j)) ≡ true) × (sameRow table i j ≡ false)
@@ -104,6 +119,11 @@ module _ (terms : List Term) (table : Table) where
       let outer = and-eq-true-iff _ _ .0 is in
       let inner = and-eq-true-iff _ _ .0 (outer .0) in
       (inner .0, inner .1, not-true (sameRow table i j) (outer .1))
+
+  -- Both sides of a pair due are lookups.
+  pub due-calls : (i j : ℕ) → isDue terms table i j ≡ true → (callOf (kindAt terms i) ≡ none → ⊥) × (callOf (kindAt terms j) ≡ none → ⊥)
+  unfolding alike
+  due-calls i j is = none-alike (callOf (kindAt terms i)) (callOf (kindAt terms j)) (due-parts i j is .0)
 
   due-made : (i j : ℕ) → alike (kindAt terms i) (kindAt terms j) ≡ true → sameRows table (inputsOf (kindAt terms i)) (inputsOf (kindAt terms j)) ≡ true → sameRow table i j ≡ false → isDue terms table i j ≡ true
   unfolding isDue

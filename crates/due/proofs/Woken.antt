@@ -7,6 +7,7 @@ use mathlib.Core.Bool.{Bool, true, false, not, _&&_, false≢true, and-eq-true-i
 use mathlib.Core.List.{List}
 use mathlib.Core.Option.{none}
 use Prim.Native.Nat.{ℕ, _+_, _*_, _<_, _≤_}
+use native.Mathlib.Decide.{ℕ-discrete}
 use native.Mathlib.Omega.{arith}
 use lib.ListN.{length, getD}
 use lib.IntN.{ℤ}
@@ -21,21 +22,26 @@ use Rattle.table.specs.Held.{rowAt, tableAt}
 use Rattle.table.specs.Sparse.{usersOf, pendingOf, openOf, Linked, Stirred}
 use Rattle.table.proofs.Linked.{linked-same}
 use Rattle.same.proofs.Equal.{same-rows}
-use Rattle.due.specs.Found.{Lookups, InputsBelow, sameInput, sameInputs, Twin, Looked, Finds, Watched, Awake}
-use Rattle.due.proofs.Heads.{due-alike, alike-due, due-heads}
+use Rattle.due.specs.Found.{Lookups, InputsBelow, sameInput, sameInputs, Shut, Looked, Finds, Watched, Awake}
+use Rattle.due.proofs.Heads.{no-call, due-alike, alike-due, due-heads}
 
 -- Where no pair is due, nothing has to wait.
 pub closed-sleeps : {waiting : List ℕ} {terms : List Term} {n : ℕ} {table : Table} {sets : List ℕ} → length terms ≡ n → due terms table ≡ none → Watched waiting terms n table sets → Awake terms n table sets
 closed-sleeps {terms = terms} {table = table} count closed watched =
-    record { found = λ i j before below is left right. absurd (false≢true (sym (none-due terms table closed i j before (omega arith)) ∙ is)); twins = watched .twins }
+    record { found = λ i j before below is left right. absurd (false≢true (sym (none-due terms table closed i j before (omega arith)) ∙ is)); others = watched .others }
 
 -- Where every lookup is pending, both sides of a pair are.
-pub pending-awake : {terms : List Term} {n : ℕ} {table : Table} {sets : List ℕ} → n ≤ 64 → ((k : ℕ) → k < 64 → holds (pendingOf sets) k ≡ true) → ((j : ℕ) → j < n → holds (openOf sets) j ≡ false → (i : ℕ) × Twin terms table i j) → Awake terms n table sets
-pending-awake small all twins = record { found = λ i j before below is left right. inr (inl (all i (omega arith))); twins = twins }
+pub pending-awake : {terms : List Term} {n : ℕ} {table : Table} {sets : List ℕ} → n ≤ 64 → ((k : ℕ) → k < 64 → holds (pendingOf sets) k ≡ true) → ((j : ℕ) → j < n → holds (openOf sets) j ≡ false → Shut terms table j) → Awake terms n table sets
+pending-awake small all others = record { found = λ i j before below is left right. inr (inl (all i (omega arith))); others = others }
 
 -- At the start every lookup is open too.
-pub all-awake : (terms : List Term) (n : ℕ) (table : Table) {sets : List ℕ} → n ≤ 64 → ((k : ℕ) → k < 64 → holds (pendingOf sets) k ≡ true) → ((k : ℕ) → k < 64 → holds (openOf sets) k ≡ true) → Awake terms n table sets
-all-awake terms n table small pending opened = pending-awake small pending (λ j below out. absurd (false≢true (sym out ∙ opened j (omega arith))))
+pub all-awake : {terms : List Term} {n : ℕ} (table : Table) {heads inputs sets : List ℕ} → Lookups terms n heads inputs → n ≤ 64 → ((k : ℕ) → k < 64 → holds (pendingOf sets) k ≡ true) → ((j : ℕ) → j < n → (getD heads j 0 ≡ 0 → ⊥) → holds (openOf sets) j ≡ true) → Awake terms n table sets
+all-awake {terms} {n} table {heads} {inputs} {sets} lookups small pending opened =
+    pending-awake small pending (λ j below out. inl (no-call (kindAt terms j) (sym (lookups .calls .head j below) ∙ by j below out (ℕ-discrete (getD heads j 0) 0))))
+  where
+    by : (j : ℕ) → j < n → holds (openOf sets) j ≡ false → Dec (getD heads j 0 ≡ 0) → getD heads j 0 ≡ 0
+    by j below out (yes nothing) = nothing
+    by j below out (no lookup) = absurd (false≢true (sym out ∙ opened j below lookup))
 
 -- The links are those of the places 64 to 191.
 pub linked-kept : {n : ℕ} {heads inputs sets₀ sets : List ℕ} → n ≤ 64 → InputsBelow n inputs → ((k : ℕ) → 64 ≤ k → k < 192 → getD sets k 0 ≡ getD sets₀ k 0) → Linked n heads inputs sets₀ → Linked n heads inputs sets

@@ -1,11 +1,12 @@
 -- The search for the pair due, on lookups as numbers.
--- Main definitions: `symbolOf`, `Lookups`, `InputsBelow`, `sameInputs`, `leftFor`, `leftAmong`, `pairOf`, `Below`, `Twin`, `Looked`, `Finds`, `Watched`, `Awake`. Assumes nothing.
+-- Main definitions: `symbolOf`, `Lookups`, `InputsBelow`, `sameInputs`, `leftFor`, `leftAmong`, `pairOf`, `Below`, `Twin`, `Shut`, `Waits`, `Passed`, `Looked`, `Watched`, `Awake`. Assumes nothing.
 use mathlib.Core.Path.{_≡_}
-use mathlib.Core.Logic.{_⊎_}
-use mathlib.Core.Bool.{Bool, true, false, cond, _&&_}
+use mathlib.Core.Logic.{_⊎_, _≢_}
+use mathlib.Core.Bool.{Bool, true, false, not, cond, _&&_}
 use mathlib.Core.List.{List, []}
 use mathlib.Core.Option.{Option, some, none}
 use Prim.Native.Nat.{ℕ, _+_, _*_, _<_}
+use lib.Dec.{eqb}
 use lib.ListN.{length, getD}
 use Rattle.bits.specs.Sets.{holds}
 use Rattle.problem.specs.declared.Kind.{Kind}
@@ -74,19 +75,34 @@ pub record Twin (terms : List Term) (table : Table) (i j : ℕ) : Type 0 where
   pub inputs : sameRows table (inputsOf (kindAt terms i)) (inputsOf (kindAt terms j)) ≡ true
   pub own : sameRow table i j ≡ true
 
--- A pair that closing looks at, where set j of `waiting` holds lookups to compare lookup j with: it waits, or an input row of one of its
--- sides has changed since.
+-- A lookup that closing need not look at: no lookup at all, or one with a twin before it.
+abbrev pub Shut : List Term → Table → (j : ℕ) → Type 0
+Shut terms table j = (callOf (kindAt terms j) ≡ none) ⊎ ((i : ℕ) × Twin terms table i j)
+
+-- Lookup j waits to be compared with i: i is in set j of `waiting`, and j in the last one, which tells where any waits.
+pub record Waits (waiting : List ℕ) (i j : ℕ) : Type 0 where
+  pub left : holds (getD waiting j 0) i ≡ true
+  pub right : holds (getD waiting 64 0) j ≡ true
+
+-- No lookup waits to be compared with j any more; what else waits stays.
+pub record Passed (j : ℕ) (waiting₀ waiting : List ℕ) : Type 0 where
+  pub same-length : length waiting ≡ length waiting₀
+  pub here : getD waiting j 0 ≡ 0
+  pub others : (k : ℕ) → k ≢ j → k ≢ 64 → getD waiting k 0 ≡ getD waiting₀ k 0
+  pub rights : (k : ℕ) → holds (getD waiting 64 0) k ≡ (not (eqb k j) && holds (getD waiting₀ 64 0) k)
+
+-- A pair that closing looks at: it waits, or an input row of one of its sides has changed since.
 abbrev pub Looked : (waiting sets : List ℕ) (i j : ℕ) → Type 0
-Looked waiting sets i j = (holds (getD waiting j 0) i ≡ true) ⊎ ((holds (pendingOf sets) i ≡ true) ⊎ (holds (pendingOf sets) j ≡ true))
+Looked waiting sets i j = Waits waiting i j ⊎ ((holds (pendingOf sets) i ≡ true) ⊎ (holds (pendingOf sets) j ≡ true))
 
 -- Closing looks at every pair of open lookups that is due.
 abbrev pub Finds : (waiting : List ℕ) (terms : List Term) (n : ℕ) (table : Table) (sets : List ℕ) → Type 0
 Finds waiting terms n table sets = (i j : ℕ) → i < j → j < n → isDue terms table i j ≡ true → holds (openOf sets) i ≡ true → holds (openOf sets) j ≡ true → Looked waiting sets i j
 
--- A lookup that is not open has a twin before it.
+-- And every other lookup is shut.
 pub record Watched (waiting : List ℕ) (terms : List Term) (n : ℕ) (table : Table) (sets : List ℕ) : Type 0 where
   pub found : Finds waiting terms n table sets
-  pub twins : (j : ℕ) → j < n → holds (openOf sets) j ≡ false → (i : ℕ) × Twin terms table i j
+  pub others : (j : ℕ) → j < n → holds (openOf sets) j ≡ false → Shut terms table j
 
 -- Between closings no pair waits.
 abbrev pub Awake : (terms : List Term) (n : ℕ) (table : Table) (sets : List ℕ) → Type 0

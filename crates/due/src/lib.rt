@@ -1,5 +1,6 @@
 // The next pair of lookups that closing merges. A pair is looked at only where it waits: an input row of it has changed since it
 // was looked at last, and neither lookup was merged with a congruent one before it.
+use problem::TERMS;
 use same::same_row;
 use table::OPEN;
 ghost use mathlib.Core.Path.{_≡_};
@@ -16,7 +17,10 @@ ghost use Rattle.run.specs.Close.{isDue, due};
 ghost use Rattle.table.specs.Calls.{headOf};
 ghost use Rattle.table.specs.Held.{tableAt, SoundTo};
 ghost use Rattle.table.specs.Sparse.{pendingOf, openOf, Sparse};
-ghost use Rattle.due.specs.Found.{symbolOf, Lookups, InputsBelow, sameInput, sameInputs, leftAmong, pairOf, Below, Watched};
+ghost use Rattle.due.specs.Found.{symbolOf, Lookups, InputsBelow, sameInput, sameInputs, leftAmong, pairOf, Below, Passed, Watched};
+
+// Behind the sets of the lookups that wait to be compared with each: the set of those that any waits for.
+pub const RIGHTS: usize = TERMS;
 
 // The pair due, of the smallest right and then the smallest left; or none is.
 pub enum Due {
@@ -124,16 +128,30 @@ fn is_due(
     !same_terms(nums, dens, n, sets, i, j)
 }
 
-// The lookups of a set that are open, if j is: those that j is compared with.
-fn lefts_open(sets: &[u64], set: u64, j: usize) -> u64
-    requires { ⌜ (j < 64) × (194 ≤ length (now sets)) ⌝ }
-    ensures { λ r. ⌜ ((i : ℕ) → holds r i ≡ (holds (openOf (now (sets .entry))) j && (holds set i && holds (openOf (now (sets .entry))) i))) ⌝ }
+// The open lookups that wait to be compared with those before them.
+fn rights_open(sets: &[u64], waiting: &[u64]) -> u64
+    requires { ⌜ (194 ≤ length (now sets)) × (65 ≤ length (now waiting)) ⌝ }
+    ensures { λ r. ⌜ ((j : ℕ) → holds r j ≡ (holds (getD (now (waiting .entry)) 64 0) j && holds (openOf (now (sets .entry))) j)) ⌝ }
 {
-    let open = sets[OPEN];
-    if bits::has(open, j) {
-        return bits::common(set, open);
-    }
-    0
+    bits::common(waiting[RIGHTS], sets[OPEN])
+}
+
+// The open lookups that wait to be compared with j.
+fn lefts_open(sets: &[u64], waiting: &[u64], j: usize) -> u64
+    requires { ⌜ (j < 64) × (194 ≤ length (now sets)) × (65 ≤ length (now waiting)) ⌝ }
+    ensures { λ r. ⌜ ((i : ℕ) → holds r i ≡ (holds (getD (now (waiting .entry)) j 0) i && holds (openOf (now (sets .entry))) i)) ⌝ }
+{
+    bits::common(waiting[j], sets[OPEN])
+}
+
+// No lookup waits to be compared with j any more.
+fn pass(waiting: &mut [u64], j: usize)
+    requires { ⌜ (j < 64) × (65 ≤ length (now waiting)) ⌝ }
+    ensures { λ r. ⌜ Passed j (now (waiting .entry)) (now (waiting .exit)) ⌝ }
+{
+    let rights = bits::without(waiting[RIGHTS], j);
+    waiting[j] = 0;
+    waiting[RIGHTS] = rights;
 }
 
 // The pair due of right side j with the smallest left side that is one of `lefts`.
@@ -176,7 +194,7 @@ pub fn find_due(
     sets: &[u64],
     waiting: &mut [u64],
 ) -> Due
-    requires { ⌜ (n ≤ 64) × (64 ≤ length (now waiting)) ⌝ }
+    requires { ⌜ (n ≤ 64) × (65 ≤ length (now waiting)) ⌝ }
     requires { ⌜ (4160 ≤ length (now nums)) × (4160 ≤ length (now dens)) ⌝ }
     requires { ⌜ (64 ≤ length (now heads)) × (192 ≤ length (now inputs)) × (194 ≤ length (now sets)) ⌝ }
     requires { ⌜ SoundTo (65 * n) (now nums) (now dens) ⌝ }
@@ -186,14 +204,15 @@ pub fn find_due(
     ensures { λ r. ⌜ ((terms : List Term) → Lookups terms n (now (heads .entry)) (now (inputs .entry)) → Watched (now (waiting .entry)) terms n (tableAt n (now (nums .entry)) (now (dens .entry))) (now (sets .entry)) → (due terms (tableAt n (now (nums .entry)) (now (dens .entry))) ≡ pairOf r) × Watched (now (waiting .exit)) terms n (tableAt n (now (nums .entry)) (now (dens .entry))) (now (sets .entry))) ⌝ }
     ensures { λ r. ⌜ Below n r ⌝ }
 {
-    let mut j: usize = 0;
+    let rights = rights_open(sets, waiting);
+    let mut j = bits::next(rights, 0);
     while j < n {
-        let lefts = lefts_open(sets, waiting[j], j);
+        let lefts = lefts_open(sets, waiting, j);
         match left_due(nums, dens, n, heads, inputs, sets, lefts, j) {
             Due::Pair { left, right } => return Due::Pair { left, right },
             Due::Closed => {
-                waiting[j] = 0;
-                j += 1;
+                pass(waiting, j);
+                j = bits::next(rights, j + 1);
             }
         }
     }

@@ -66,7 +66,7 @@ awake t p e =
     let s = start b in
     let built = b .build .ensures p e in
     let done = t .enum-told .given .1 in
-    all-awake (p .terms) (s .args .n) (tableAt (s .args .n) (b .build .last .1 .1 .0) (b .build .last .1 .1 .1 .0)) (few s) (built .pending done) (built .opened done)
+    all-awake (tableAt (s .args .n) (b .build .last .1 .1 .0) (b .build .last .1 .1 .1 .0)) (noted t p e) (few s) (built .pending done) (built .opened done .inside)
 
 close-requires : tie.Need-close-requires
 close-requires c κs =

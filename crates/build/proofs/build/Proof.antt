@@ -1,9 +1,9 @@
 use Rattle.build.proofs.Decoded.{term-buildable, kind-there}
 use Rattle.table.proofs.Linked.{linked-same}
-use Rattle.build.proofs.Linking.{sparse-same}
-use Rattle.build.proofs.Noted.{below-more, calls-noted, notes-more, inputs-noted, linked-noted}
+use Rattle.build.proofs.Linking.{sparse-same, opened-same}
+use Rattle.build.proofs.Noted.{below-more, calls-noted, notes-more, inputs-noted, linked-noted, opened-noted}
 use Rattle.build.specs.Built.{TableBuilt}
-use Rattle.build.specs.Links.{InputsSmall}
+use Rattle.build.specs.Links.{InputsSmall, Opened}
 use Rattle.bits.specs.Sets.{holds}
 use Rattle.bits.proofs.Digits.{holds-all}
 use Rattle.build.proofs.Rows.{Rising, rising-starts, rising-goes-on, rising-stops, rising-ends}
@@ -13,13 +13,13 @@ use Rattle.problem.specs.Bits.{field}
 use Rattle.problem.specs.Problem.{Problem, decoded}
 use Rattle.problem.specs.Lookup.{kindAt}
 use Rattle.table.specs.Calls.{Calls, NotesKept}
-use Rattle.table.specs.Sparse.{Sparse, Linked, pendingOf, openOf}
+use Rattle.table.specs.Sparse.{Sparse, Linked, pendingOf}
 use Rattle.table.specs.declared.Step.the-variants.{Done}
 use Rattle.build_rows.specs.Buildable.{Written, Buildable}
 use Rattle.build_rows.specs.Built.{RowBuilt}
 use native.Mathlib.Omega.{arith}
 use Prim.Native.Nat.{ℕ, _+_, _-_, _≤_, _<_, _*_}
-use lib.ListN.{length, getD, set, length-set}
+use lib.ListN.{length, set}
 use lib.Seq.{getD-set-same, getD-set-other}
 use mathlib.Core.Path.{_≡_, refl, sym, ap, _∙_, subst}
 use borrow.Author.Needs.{needs}
@@ -29,7 +29,7 @@ use Rattle.build.proofs.build.Tie as tie
 -- The rows below t are built and their lookups linked, and what remains gives the same.
 abbrev Inv-loop : tie.InvT-loop
 Inv-loop bytes n nums₀ dens₀ heads₀ inputs₀ sets₀ t₀ nums dens heads inputs sets t =
-    (t ≤ n) × (length nums ≡ length nums₀) × (length dens ≡ length dens₀) × (length heads ≡ length heads₀) × (length inputs ≡ length inputs₀) × (length sets ≡ length sets₀) × InputsSmall t inputs × Sparse t nums sets × Linked t heads inputs sets × ((p : Problem) → decoded bytes ≡ made p → Rising (p .terms) t nums₀ dens₀ nums dens heads₀ inputs₀ heads inputs)
+    (t ≤ n) × (length nums ≡ length nums₀) × (length dens ≡ length dens₀) × (length heads ≡ length heads₀) × (length inputs ≡ length inputs₀) × (length sets ≡ length sets₀) × InputsSmall t inputs × Sparse t nums sets × Linked t heads inputs sets × ((p : Problem) → decoded bytes ≡ made p → Rising (p .terms) t nums₀ dens₀ nums dens heads₀ inputs₀ heads inputs) × Opened t heads sets
 
 abbrev μ-loop : tie.MeasureT-loop
 μ-loop bytes n nums₀ dens₀ heads₀ inputs₀ sets₀ t₀ nums dens heads inputs sets t = n - t
@@ -47,6 +47,7 @@ loop-holds c =
       record { within = λ t below. absurd (omega arith) },
       record { users = λ j k below place lookup. absurd (omega arith); earlier = λ i j before below lookup same. absurd (omega arith) },
       λ p e. rising-starts (p .terms) (a .nums .now) (a .dens .now) (a .heads .now) (a .inputs .now),
+      record { inside = λ j below lookup. absurd (omega arith) },
     )
 
 -- where the function began
@@ -101,7 +102,13 @@ note-links-requires c κs =
     let lengths = start l .pre .1 .1 .1 in
     let small = within (read .before) .0 in (
       (small, call .note-call .kept .1 .1 .0 ∙ l .loop .inv .3 ∙ lengths .0 .0, call .note-call .kept .1 .1 .1 .0 ∙ l .loop .inv .4 ∙ lengths .0 .1, l .loop .inv .5 ∙ lengths .1),
-      (inputs-after call, linked-noted (l .loop .t) (read .term-at .result .kind) (l .loop .inputs) (call .note-call .ensures .1) small (call .note-call .ensures .0) (l .loop .inv .6) (l .loop .inv .8)),
+      (
+        inputs-after call,
+        (
+          linked-noted (l .loop .t) (read .term-at .result .kind) (l .loop .inputs) (call .note-call .ensures .1) small (call .note-call .ensures .0) (l .loop .inv .6) (l .loop .inv .8),
+          opened-noted (l .loop .t) (read .term-at .result .kind) (call .note-call .ensures .0) (l .loop .inv .10),
+        ),
+      ),
     )
 
 -- the places before the row: the links, the call, and the loop's head
@@ -130,7 +137,7 @@ build-term-requires c κs =
     let small = within (read .before) .0 in
     let lengths = s .pre .1 .1 .0 in (
       (small, rw (l .loop .inv .1) (lengths .0), rw (l .loop .inv .2) (lengths .1)),
-      (l .loop .inv .9 (s .pre .0 .problem) (s .pre .0 .same) .sound, (buildable read, (linked .note-links .kept .1 .1 .1 .0 ∙ l .loop .inv .5 ∙ s .pre .1 .1 .1 .1, sparse-same (λ k below. linked .note-links .ensures .1 k (omega arith)) (l .loop .inv .7)))),
+      (l .loop .inv .9 (s .pre .0 .problem) (s .pre .0 .same) .sound, (buildable read, (linked .note-links .kept .1 .1 .1 .0 ∙ l .loop .inv .5 ∙ s .pre .1 .1 .1 .1, sparse-same (λ k below. linked .note-links .ensures .1 .1 k (omega arith)) (l .loop .inv .7)))),
     )
 
 -- the row of term t is built, or refused
@@ -173,6 +180,7 @@ loop-again c =
       row .1 .0,
       linked-same (omega arith) (λ j k below place. inputs-after call .small (3 * j + k) (omega arith)) (λ k low high. row .1 .1 k (λ e. omega arith)) (linked .note-links .ensures .0),
       λ p e. rising-goes-on (p .terms) (s .args .nums .now) (s .args .dens .now) (s .args .heads .now) (s .args .inputs .now) (l .loop .t) (omega (arith, turn call .loop-test .taken, count s p e)) (row-next b p e) (l .loop .inv .9 p e) (c .enum-told .given .1) (kept-notes call (l .loop .t + 1) (omega arith)) (noted call p e),
+      opened-same (λ j below. refl) (row .1 .1 193 (λ e. omega arith)) (linked .note-links .ensures .1 .0),
     )
 
 enum-known-number : tie.Need-enum-known-number Inv-loop μ-loop
@@ -208,9 +216,6 @@ ALL = 18446744073709551615
 slice-write-sets : tie.Need-slice-write-sets Inv-loop μ-loop
 slice-write-sets c = search needs
 
-slice-write-sets-2 : tie.Need-slice-write-sets-2 Inv-loop μ-loop
-slice-write-sets-2 c = search needs
-
 same-length-6 : tie.Need-same-length-6 Inv-loop μ-loop
 same-length-6 c = search needs
 
@@ -227,24 +232,22 @@ same-length-10 : tie.Need-same-length-10 Inv-loop μ-loop
 same-length-10 c = search needs
 
 returns-2 : tie.Need-returns-2 Inv-loop μ-loop
-unfolding pendingOf openOf
+unfolding pendingOf
 returns-2 c p e =
     let l = c .before in
     let s = start l in
     let all : l .loop .t ≡ s .args .n = omega arith in
     let sets = l .loop .sets in
     let sized : length sets ≡ 194 = l .loop .inv .5 ∙ s .pre .1 .1 .1 .1 in
-    let after = set sets 192 ALL in
-    let other : (k : ℕ) → k < 192 → getD (set after 193 ALL) k 0 ≡ getD sets k 0 = λ k below. getD-set-other after 193 k ALL 0 (λ at. omega arith) ∙ getD-set-other sets 192 k ALL 0 (λ at. omega arith) in
     let few : l .loop .t ≤ 64 = omega (arith, holding (s .args .bytes .now) (s .pre .0 .problem) (s .pre .0 .same), s .pre .1 .0) in
     let n = s .args .nums .now in
     let d = s .args .dens .now in
-    subst (λ t. TableBuilt (p .terms) t Done n d (l .loop .nums) (l .loop .dens) (s .args .heads .now) (s .args .inputs .now) (l .loop .heads) (l .loop .inputs) (set after 193 ALL)) all
+    subst (λ t. TableBuilt (p .terms) t Done n d (l .loop .nums) (l .loop .dens) (s .args .heads .now) (s .args .inputs .now) (l .loop .heads) (l .loop .inputs) (set sets 192 ALL)) all
     (rising-ends (p .terms) n d (s .args .heads .now) (s .args .inputs .now) (l .loop .t) (all ∙ count s p e) (l .loop .inv .9 p e)
-    (sparse-same (λ k below. other k (omega arith)) (l .loop .inv .7))
-    (linked-same few (λ j k below place. l .loop .inv .6 .small (3 * j + k) (omega arith)) (λ k low high. other k high) (l .loop .inv .8))
-    (λ j below. ap (λ x. holds x j) (getD-set-other after 193 192 ALL 0 (λ at. omega arith) ∙ getD-set-same sets 192 ALL 0 (omega arith)) ∙ holds-all j below)
-    (λ j below. ap (λ x. holds x j) (getD-set-same after 193 ALL 0 (omega (arith, length-set sets 192 ALL))) ∙ holds-all j below))
+    (sparse-same (λ k below. getD-set-other sets 192 k ALL 0 (λ at. omega arith)) (l .loop .inv .7))
+    (linked-same few (λ j k below place. l .loop .inv .6 .small (3 * j + k) (omega arith)) (λ k low high. getD-set-other sets 192 k ALL 0 (λ at. omega arith)) (l .loop .inv .8))
+    (λ j below. ap (λ x. holds x j) (getD-set-same sets 192 ALL 0 (omega arith)) ∙ holds-all j below)
+    (opened-same (λ j below. refl) (getD-set-other sets 192 193 ALL 0 (λ at. omega arith)) (l .loop .inv .10)))
 
 pub build-spec : {M : Type 1} → statement M
 build-spec =
@@ -269,7 +272,6 @@ build-spec =
     same-length-5
     returns
     slice-write-sets
-    slice-write-sets-2
     same-length-6
     same-length-7
     same-length-8

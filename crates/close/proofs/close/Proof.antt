@@ -15,7 +15,7 @@ use Rattle.close.proofs.close.Tie as tie
 
 abbrev Inv-loop : tie.InvT-loop
 Inv-loop nums₀ dens₀ n heads inputs sets₀ solved waiting₀ count₀ turns₀ nums dens sets waiting count turns =
-    Closing n solved heads inputs nums₀ dens₀ sets₀ count turns nums dens sets waiting × (length waiting ≡ 64)
+    Closing n solved heads inputs nums₀ dens₀ sets₀ count turns nums dens sets waiting × (length waiting ≡ 65)
 
 abbrev μ-loop : tie.MeasureT-loop
 μ-loop nums₀ dens₀ n heads inputs sets₀ solved waiting₀ count₀ turns₀ nums dens sets waiting count turns = turns
@@ -167,7 +167,7 @@ sets-stay m =
     m .merge .kept .1 .1 .1 .1 .1 .0 ∙ length-set (w .wake .last .1 .0) 193 (o .without .result) ∙ served w .size ∙ sym (start (head w) .pre .1 .1 .1 .1 .1 .size)
 
 -- the pairs that wait stay as many
-waiting-stays : (m : tie.After-merge Inv-loop μ-loop) → length (found (pair (shut m)) .find-due .last .1 .1 .1 .1 .1 .1 .0) ≡ 64
+waiting-stays : (m : tie.After-merge Inv-loop μ-loop) → length (found (pair (shut m)) .find-due .last .1 .1 .1 .1 .1 .1 .0) ≡ 65
 waiting-stays m = let f = found (pair (shut m)) in f .find-due .kept .1 .1 .1 .1 .1 .1 .0 ∙ woken f .wake .kept .1 .1 .0 ∙ head (woken f) .loop .inv .1
 
 enum-told-2 : tie.Need-enum-told-2 Inv-loop μ-loop

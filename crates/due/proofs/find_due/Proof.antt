@@ -1,44 +1,66 @@
 -- `due::find_due` meets its contract: no right side before j has a pair due, and what closing has to look at waits. Assumes nothing.
 use borrow.Author.Needs.{needs}
-use mathlib.Core.Path.{_≡_, refl, ap, _∙_, subst}
+use mathlib.Core.Path.{_≡_, refl, sym, ap, ap₂, _∙_, subst}
+use mathlib.Core.Bool.{true, not, _&&_, false≢true, and-eq-true-iff}
 use mathlib.Core.Option.{none}
 use mathlib.Core.List.{List}
-use Prim.Native.Nat.{ℕ, _+_, _-_, _<_}
+use Prim.Native.Nat.{ℕ, _+_, _-_, _<_, _≤_}
 use native.Mathlib.Omega.{arith}
-use lib.ListN.{length, length-set}
+use lib.Dec.{eqb}
+use lib.ListN.{length, getD}
+use Rattle.bits.specs.Sets.{holds, Next}
 use Rattle.invariant.proofs.Pivot.{last-or-before}
 use Rattle.problem.specs.declared.Term.{Term}
 use Rattle.run.specs.Row.{Table}
 use Rattle.table.specs.Held.{tableAt}
-use Rattle.due.specs.Found.{Lookups, leftFor, pairOf, Below, Watched}
-use Rattle.due.proofs.Passed.{left-watched, watched-passed}
+use Rattle.table.specs.Sparse.{openOf}
+use Rattle.due.specs.Found.{Lookups, leftFor, pairOf, Below, Waits, Watched}
+use Rattle.due.proofs.Passed.{left-watched, rights-passed, watched-passed}
 use Rattle.due.proofs.Search.{first-found, first-skips, first-nowhere, due-searched}
 use Rattle.due.proofs.find_due.Statement.{statement}
 use Rattle.due.proofs.find_due.Tie as tie
 
 abbrev Inv-loop : tie.InvT-loop
-Inv-loop nums dens n heads inputs sets waiting₀ j₀ waiting j =
+Inv-loop nums dens n heads inputs sets waiting₀ rights j₀ waiting j =
     (length waiting ≡ length waiting₀)
-    × ((terms : List Term) → Lookups terms n heads inputs → Watched waiting₀ terms n (tableAt n nums dens) sets → Watched waiting terms n (tableAt n nums dens) sets × ((k : ℕ) → k < j → leftFor terms (tableAt n nums dens) k ≡ none))
+    × ((k : ℕ) → holds (getD waiting 64 0) k ≡ true → holds (getD waiting₀ 64 0) k ≡ true)
+    × ((terms : List Term) → Lookups terms n heads inputs → Watched waiting₀ terms n (tableAt n nums dens) sets → Watched waiting terms n (tableAt n nums dens) sets × ((k : ℕ) → k < j → k < n → leftFor terms (tableAt n nums dens) k ≡ none))
 
 abbrev μ-loop : tie.MeasureT-loop
-μ-loop nums dens n heads inputs sets waiting₀ j₀ waiting j = n - j
+μ-loop nums dens n heads inputs sets waiting₀ rights j₀ waiting j = n - j
+
+rights-open-requires : tie.Need-rights-open-requires Inv-loop μ-loop
+rights-open-requires c κs = search needs
+
+next-requires : tie.Need-next-requires Inv-loop μ-loop
+next-requires c κs = search needs
+
+abbrev table-of : tie.Start Inv-loop μ-loop → Table
+table-of s = tableAt (s .args .n) (s .args .nums .now) (s .args .dens .now)
+
+abbrev start : tie.After-rights-open Inv-loop μ-loop → tie.Start Inv-loop μ-loop
+start r = r .before .before .before .before .before .before
+
+-- no open lookup waits for a right side that is passed over
+idle : (r : tie.After-rights-open Inv-loop μ-loop) {waiting : List ℕ} {from on : ℕ} → ((k : ℕ) → holds (getD waiting 64 0) k ≡ true → holds (getD (start r .args .waiting .now) 64 0) k ≡ true) → Next (r .rights-open .result) from on → (k : ℕ) → from ≤ k → k < on → (i : ℕ) → holds (openOf (start r .args .sets .now)) i ≡ true → holds (openOf (start r .args .sets .now)) k ≡ true → Waits waiting i k → ⊥
+idle r fewer next k above short i left right waits =
+    false≢true (sym (next .none-between k above short) ∙ r .rights-open .ensures k ∙ ap₂ _&&_ (fewer k (waits .right)) right)
 
 loop-holds : tie.Need-loop-holds Inv-loop μ-loop
-loop-holds c = (refl, λ terms lookups watched. (watched, λ k below. absurd (omega arith)))
-
-mul-lefts-open : tie.Need-mul-lefts-open Inv-loop μ-loop
-mul-lefts-open c = search needs
-
-slice-read-lefts-open : tie.Need-slice-read-lefts-open Inv-loop μ-loop
-slice-read-lefts-open c = search needs
+loop-holds c =
+    let r = c .before in (
+      refl,
+      λ k inside. inside,
+      λ terms lookups watched.
+          (watched, rights-passed watched (start r .pre .1 .1 .1 .1 .1 .1) 0 _ (idle r (λ k inside. inside) (c .next .ensures)) (λ k low. absurd (omega arith))),
+    )
 
 lefts-open-requires : tie.Need-lefts-open-requires Inv-loop μ-loop
-lefts-open-requires c κs = search needs
+lefts-open-requires c κs = let sized = c .before .before .loop .inv .0 in search needs
 
 left-due-requires : tie.Need-left-due-requires Inv-loop μ-loop
 left-due-requires c κs =
-    let s = c .before .before .before .before .before .before .before .before in
+    let s = start (c .before .before .before .before .before) in
     (search needs, (search needs, (search needs, (s .pre .1 .1 .1 .0, (s .pre .1 .1 .1 .1 .0, s .pre .1 .1 .1 .1 .1 .0)))))
 
 enum-known-left : tie.Need-enum-known-left Inv-loop μ-loop
@@ -47,35 +69,34 @@ enum-known-left c = search needs
 same-length : tie.Need-same-length Inv-loop μ-loop
 same-length c = search needs
 
--- where the function began, and the head of the loop in this turn
+-- the head of the loop in this turn, and the search for the right sides before it
 abbrev head : tie.After-left-due Inv-loop μ-loop → tie.At-loop Inv-loop μ-loop
 head l = l .before .before .before .before
 
-abbrev start : tie.At-loop Inv-loop μ-loop → tie.Start Inv-loop μ-loop
-start h = h .before .before .before .before .before
-
-abbrev table-of : tie.Start Inv-loop μ-loop → Table
-table-of s = tableAt (s .args .n) (s .args .nums .now) (s .args .dens .now)
+abbrev rights : tie.At-loop Inv-loop μ-loop → tie.After-rights-open Inv-loop μ-loop
+rights h = h .before .before
 
 -- the search among the lefts gives the pair due of this right side
-left-is : (l : tie.After-left-due Inv-loop μ-loop) → let h = head l in let s = start h in (terms : List Term) → Lookups terms (s .args .n) (s .args .heads .now) (s .args .inputs .now) → Watched (s .args .waiting .now) terms (s .args .n) (table-of s) (s .args .sets .now) → leftFor terms (table-of s) (h .loop .j) ≡ pairOf (l .left-due .result)
+left-is : (l : tie.After-left-due Inv-loop μ-loop) → let h = head l in let s = start (rights h) in (terms : List Term) → Lookups terms (s .args .n) (s .args .heads .now) (s .args .inputs .now) → Watched (s .args .waiting .now) terms (s .args .n) (table-of s) (s .args .sets .now) → leftFor terms (table-of s) (h .loop .j) ≡ pairOf (l .left-due .result)
 left-is l terms lookups watched =
     let h = head l in
-    let s = start h in
-    let (still, nothing) = h .loop .inv .1 terms lookups watched in
-    left-watched still (s .pre .1 .1 .1 .1 .1 .1) (l .before .lefts-open .result) (h .loop .j) (search needs) (l .before .lefts-open .ensures) nothing ∙ l .left-due .ensures .0 terms lookups
+    let s = start (rights h) in
+    let (still, nothing) = h .loop .inv .2 terms lookups watched in
+    let below : h .loop .j < s .args .n = search needs in
+    left-watched still (s .pre .1 .1 .1 .1 .1 .1) (l .before .lefts-open .result) (h .loop .j) below (λ i left right waits. l .before .lefts-open .ensures i ∙ ap₂ _&&_ (waits .left) left) (λ k low. nothing k low (omega arith))
+    ∙ l .left-due .ensures .0 terms lookups
 
 returns : tie.Need-returns Inv-loop μ-loop
 unfolding pairOf
 returns c =
     let l = c .before .before .before in
     let h = head l in
-    let s = start h in
+    let s = start (rights h) in
     let is = c .before .left .given .1 in (
       λ terms lookups watched.
-          let (still, nothing) = h .loop .inv .1 terms lookups watched in (
+          let (still, nothing) = h .loop .inv .2 terms lookups watched in (
             due-searched terms (table-of s) (s .args .n) (lookups .count)
-                ∙ first-skips (leftFor terms (table-of s)) (s .args .n) 0 (h .loop .j) (search needs) (λ k above short low. nothing k short)
+                ∙ first-skips (leftFor terms (table-of s)) (s .args .n) 0 (h .loop .j) (omega arith) (λ k above short low. nothing k short low)
                 ∙ first-found _ (s .args .n) (h .loop .j) _ (search needs) (left-is l terms lookups watched ∙ ap pairOf is),
             still,
           ),
@@ -85,29 +106,42 @@ returns c =
 enum-told : tie.Need-enum-told Inv-loop μ-loop
 enum-told c = search needs
 
-mul-waiting : tie.Need-mul-waiting Inv-loop μ-loop
-mul-waiting c = search needs
+pass-requires : tie.Need-pass-requires Inv-loop μ-loop
+pass-requires c κs = let sized = head (c .before .before .before) .loop .inv .0 in search needs
 
-slice-write-waiting : tie.Need-slice-write-waiting Inv-loop μ-loop
-slice-write-waiting c = search needs
+add-next : tie.Need-add-next Inv-loop μ-loop
+add-next c = search needs
 
-add-j : tie.Need-add-j Inv-loop μ-loop
-add-j c = search needs
+next-requires-2 : tie.Need-next-requires-2 Inv-loop μ-loop
+next-requires-2 c κs = search needs
 
 loop-less : tie.Need-loop-less Inv-loop μ-loop
-loop-less c = search needs
+loop-less c = let forward = c .next2 .ensures .forward in search needs
 
 loop-again : tie.Need-loop-again Inv-loop μ-loop
 unfolding pairOf
 loop-again c =
-    let l = c .before .before in
+    let p = c .before .before .before in
+    let t = p .before .before in
+    let l = t .before .before in
     let h = head l in
-    let s = start h in (
-      length-set (h .loop .waiting) (h .loop .j) 0 ∙ h .loop .inv .0,
+    let r = rights h in
+    let s = start r in
+    let j = h .loop .j in
+    let passed = p .pass .ensures in
+    let fewer : (k : ℕ) → holds (getD (p .pass .last .0) 64 0) k ≡ true → holds (getD (s .args .waiting .now) 64 0) k ≡ true =
+    λ k inside. h .loop .inv .1 k (and-eq-true-iff (not (eqb k j)) (holds (getD (h .loop .waiting) 64 0) k) .0 (sym (passed .rights k) ∙ inside) .1)
+    in (
+      passed .same-length ∙ h .loop .inv .0,
+      fewer,
       λ terms lookups watched.
-          let (still, nothing) = h .loop .inv .1 terms lookups watched in
-          let none-here = left-is l terms lookups watched ∙ ap pairOf (c .enum-told .given .1) in
-          (watched-passed still (h .loop .j) none-here, λ k below. last-or-before {P = λ k. leftFor terms (table-of s) k ≡ none} (h .loop .j) none-here nothing k (omega arith)),
+          let (still, nothing) = h .loop .inv .2 terms lookups watched in
+          let none-here = left-is l terms lookups watched ∙ ap pairOf (t .enum-told .given .1) in
+          let later = watched-passed still j (s .pre .0 .0) passed none-here in (
+            later,
+            rights-passed later (s .pre .1 .1 .1 .1 .1 .1) (j + 1) _ (idle r fewer (c .next2 .ensures))
+                (λ k low. last-or-before {P = λ k. k < s .args .n → leftFor terms (table-of s) k ≡ none} j (λ inside. none-here) nothing k (omega arith) (omega arith)),
+          ),
     )
 
 same-length-2 : tie.Need-same-length-2 Inv-loop μ-loop
@@ -117,10 +151,10 @@ returns-2 : tie.Need-returns-2 Inv-loop μ-loop
 unfolding pairOf Below
 returns-2 c =
     let h = c .before in
-    let s = start h in (
+    let s = start (rights h) in (
       λ terms lookups watched.
-          let (still, nothing) = h .loop .inv .1 terms lookups watched in
-          (due-searched terms (table-of s) (s .args .n) (lookups .count) ∙ first-nowhere (leftFor terms (table-of s)) (s .args .n) (λ k below. nothing k (search needs)), still),
+          let (still, nothing) = h .loop .inv .2 terms lookups watched in
+          (due-searched terms (table-of s) (s .args .n) (lookups .count) ∙ first-nowhere (leftFor terms (table-of s)) (s .args .n) (λ k below. nothing k (search needs) below), still),
       tt,
     )
 
@@ -130,18 +164,18 @@ find-due-spec =
     (tie.spec
     Inv-loop
     μ-loop
+    rights-open-requires
+    next-requires
     loop-holds
-    mul-lefts-open
-    slice-read-lefts-open
     lefts-open-requires
     left-due-requires
     enum-known-left
     same-length
     returns
     enum-told
-    mul-waiting
-    slice-write-waiting
-    add-j
+    pass-requires
+    add-next
+    next-requires-2
     loop-less
     loop-again
     same-length-2

@@ -1,19 +1,27 @@
 -- `close::wake::candidates` meets its contract. Assumes nothing.
 use borrow.Author.Needs.{needs}
-use mathlib.Core.Path.{sym, _∙_}
-use mathlib.Core.Bool.{or-true, or-false, and-true}
-use Rattle.table.specs.Sparse.{earlierOf, pendingOf}
+use mathlib.Core.Path.{sym, ap, _∙_}
+use mathlib.Core.Bool.{_&&_, or-true, or-false, and-true}
+use lib.ListN.{getD}
+use Rattle.bits.specs.Sets.{holds}
+use Rattle.table.specs.Sparse.{earlierOf, pendingOf, openOf}
 use Rattle.close.proofs.wake.candidates.Statement.{statement}
 use Rattle.close.proofs.wake.candidates.Tie as tie
 
-add-earlier : tie.Need-add-earlier
-add-earlier c = search needs
+add-common : tie.Need-add-common
+add-common c = search needs
 
-mul-earlier : tie.Need-mul-earlier
-mul-earlier c = search needs
+mul-common : tie.Need-mul-common
+mul-common c = search needs
 
-shared-slice-read-earlier : tie.Need-shared-slice-read-earlier
-shared-slice-read-earlier c = search needs
+shared-slice-read-common : tie.Need-shared-slice-read-common
+shared-slice-read-common c = search needs
+
+shared-slice-read-common-2 : tie.Need-shared-slice-read-common-2
+shared-slice-read-common-2 c = search needs
+
+common-requires : tie.Need-common-requires
+common-requires c κs = search needs
 
 shared-slice-read-pending : tie.Need-shared-slice-read-pending
 shared-slice-read-pending c = search needs
@@ -22,25 +30,32 @@ has-requires : tie.Need-has-requires
 has-requires c κs = search needs
 
 returns : tie.Need-returns
-unfolding earlierOf pendingOf
-returns c i = let pending = sym (c .before .has .ensures) ∙ c .if1 .taken in rw (pending, or-true, and-true)
+unfolding earlierOf pendingOf openOf
+returns c i =
+    let pending = sym (c .before .has .ensures) ∙ c .if1 .taken in
+    rw (pending, or-true, and-true) (c .before .before .before .common .ensures i)
 
-common-requires : tie.Need-common-requires
-common-requires c κs = search needs
+common-requires-2 : tie.Need-common-requires-2
+common-requires-2 c κs = search needs
 
 returns-2 : tie.Need-returns-2
-unfolding earlierOf pendingOf
-returns-2 c i = let asleep = sym (c .before .before .has .ensures) ∙ c .before .if1 .left in rw (asleep, or-false) (c .common .ensures i)
+unfolding earlierOf pendingOf openOf
+returns-2 c i =
+    let asleep = sym (c .before .before .has .ensures) ∙ c .before .if1 .left in
+    let sets = c .before .before .before .before .before .before .before .before .args .sets .now in
+    rw (asleep, or-false) (c .common2 .ensures i ∙ ap (λ b. b && holds (getD sets 192 0) i) (c .before .before .before .before .common .ensures i))
 
 pub candidates-spec : {M : Type 1} → statement M
 candidates-spec =
     tie.close
     (tie.spec
-    add-earlier
-    mul-earlier
-    shared-slice-read-earlier
+    add-common
+    mul-common
+    shared-slice-read-common
+    shared-slice-read-common-2
+    common-requires
     shared-slice-read-pending
     has-requires
     returns
-    common-requires
+    common-requires-2
     returns-2)

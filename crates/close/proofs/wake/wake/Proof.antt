@@ -1,21 +1,17 @@
 -- `close::wake::wake` meets its contract. Assumes nothing.
 use borrow.Author.Needs.{needs}
-use mathlib.Core.Path.{ap, _∙_}
-use mathlib.Core.Bool.{_||_}
 use Prim.Native.Nat.{_-_}
 use native.Mathlib.Omega.{arith}
-use lib.ListN.{getD}
-use Rattle.bits.specs.Sets.{holds}
-use Rattle.table.specs.Sparse.{pendingOf}
-use Rattle.close.proofs.Waking.{Waking, waking-starts, waking-more, woken-ends, woken-idle}
+use Rattle.table.specs.Sparse.{pendingOf, openOf}
+use Rattle.close.proofs.Waking.{Waking, grown-itself, waking-skips, waking-more, woken-ends, woken-idle}
 use Rattle.close.proofs.wake.wake.Statement.{statement}
 use Rattle.close.proofs.wake.wake.Tie as tie
 
 abbrev Inv-loop : tie.InvT-loop
-Inv-loop n sets waiting₀ j₀ waiting j = Waking sets waiting₀ j waiting
+Inv-loop n sets waiting₀ opened j₀ waiting j = Waking sets waiting₀ j waiting
 
 abbrev μ-loop : tie.MeasureT-loop
-μ-loop n sets waiting₀ j₀ waiting j = n - j
+μ-loop n sets waiting₀ opened j₀ waiting j = n - j
 
 slice-read-if1 : tie.Need-slice-read-if1 Inv-loop μ-loop
 slice-read-if1 c = search needs
@@ -24,41 +20,34 @@ returns : tie.Need-returns Inv-loop μ-loop
 unfolding pendingOf
 returns c = woken-idle _ _ (c .if1 .taken)
 
+slice-read-open : tie.Need-slice-read-open Inv-loop μ-loop
+slice-read-open c = search needs
+
+next-requires : tie.Need-next-requires Inv-loop μ-loop
+next-requires c κs = search needs
+
 loop-holds : tie.Need-loop-holds Inv-loop μ-loop
-loop-holds c = waking-starts _ _
+unfolding openOf
+loop-holds c = waking-skips (c .next .ensures) (record { grown = grown-itself _; adds = λ i k low. absurd (omega arith) })
 
-mul-union : tie.Need-mul-union Inv-loop μ-loop
-mul-union c = search needs
+wake-right-requires : tie.Need-wake-right-requires Inv-loop μ-loop
+wake-right-requires c κs = let sized = c .before .before .before .loop .inv .grown .same-length in search needs
 
-slice-read-union : tie.Need-slice-read-union Inv-loop μ-loop
-slice-read-union c = let sized = c .before .before .loop .inv .same-length in search needs
+add-next : tie.Need-add-next Inv-loop μ-loop
+add-next c = search needs
 
-candidates-requires : tie.Need-candidates-requires Inv-loop μ-loop
-candidates-requires c κs = search needs
-
-union-requires : tie.Need-union-requires Inv-loop μ-loop
-union-requires c κs = search needs
-
-mul-waiting : tie.Need-mul-waiting Inv-loop μ-loop
-mul-waiting c = search needs
-
-slice-write-waiting : tie.Need-slice-write-waiting Inv-loop μ-loop
-slice-write-waiting c = let sized = c .before .before .before .before .before .loop .inv .same-length in search needs
-
-add-j : tie.Need-add-j Inv-loop μ-loop
-add-j c = search needs
+next-requires-2 : tie.Need-next-requires-2 Inv-loop μ-loop
+next-requires-2 c κs = search needs
 
 loop-less : tie.Need-loop-less Inv-loop μ-loop
-loop-less c = search needs
+loop-less c = let forward = c .next2 .ensures .forward in search needs
 
 loop-again : tie.Need-loop-again Inv-loop μ-loop
+unfolding openOf
 loop-again c =
-    let noted = c .before in
-    let head = noted .before .before .before .before in
-    let start = head .before .before .before .before .before in
-    let sized = head .loop .inv .same-length in
-    waking-more (head .loop .j) (c .union .result) (omega (arith, sized, start .pre))
-    (λ i. c .union .ensures i ∙ ap (λ b. holds (getD (head .loop .waiting) (head .loop .j) 0) i || b) (noted .candidates .ensures i)) (head .loop .inv)
+    let turn = c .before .before .before in
+    let head = turn .before .before .before .before in
+    waking-skips (c .next2 .ensures) (waking-more (head .loop .j) (turn .wake-right .ensures .0) (turn .wake-right .ensures .1) (head .loop .inv))
 
 slice-write-sets : tie.Need-slice-write-sets Inv-loop μ-loop
 slice-write-sets c = search needs
@@ -67,12 +56,12 @@ same-length : tie.Need-same-length Inv-loop μ-loop
 same-length c = search needs
 
 same-length-2 : tie.Need-same-length-2 Inv-loop μ-loop
-same-length-2 c = c .before .loop .inv .same-length
+same-length-2 c = c .before .loop .inv .grown .same-length
 
 returns-2 : tie.Need-returns-2 Inv-loop μ-loop
 returns-2 c =
-    let start = c .before .before .before .before .before .before in
-    woken-ends _ (search needs) (omega (arith, start .pre)) (c .before .loop .inv)
+    let start = c .before .before .before .before .before .before .before .before in
+    woken-ends _ (search needs) (start .pre .0) (omega (arith, start .pre)) (c .before .loop .inv)
 
 pub wake-spec : {M : Type 1} → statement M
 wake-spec =
@@ -82,14 +71,12 @@ wake-spec =
     μ-loop
     slice-read-if1
     returns
+    slice-read-open
+    next-requires
     loop-holds
-    mul-union
-    slice-read-union
-    candidates-requires
-    union-requires
-    mul-waiting
-    slice-write-waiting
-    add-j
+    wake-right-requires
+    add-next
+    next-requires-2
     loop-less
     loop-again
     slice-write-sets

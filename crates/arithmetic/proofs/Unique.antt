@@ -6,7 +6,7 @@ use native.Mathlib.Omega.{arith}
 use lib.IntN.{ℤ, pos, natAbs}
 use Rattle.whole.specs.Gcd.{gcd}
 use Rattle.whole.specs.Signed.{signed}
-use Rattle.fraction.specs.Exact.{ℚ, frac, negℚ, inverse, value}
+use Rattle.fraction.specs.Exact.{ℚ, frac, value}
 use Rattle.fraction.specs.Made as rule
 use Rattle.fraction.specs.Limits.{tested}
 use Rattle.fraction.specs.Made.{made, stopped}
@@ -38,12 +38,6 @@ answers-unique {r} {s} p q = says-one-to-one r s (p .sound) (q .sound) (p .same 
 
 pub stands-unique : {f g : Fraction} {q : ℚ} → Stands f q → Stands g q → f ≡ g
 stands-unique p q = value-one-to-one (p .good) (q .good) (p .same ∙ sym (q .same))
-
-pub negated-unique : (a : Fraction) (f g : Fraction) → Stands f (negℚ (value a)) → Stands g (negℚ (value a)) → f ≡ g
-negated-unique a f g p q = stands-unique p q
-
-pub inverted-unique : (a : Fraction) (f g : Fraction) → Stands f (inverse (value a)) → Stands g (inverse (value a)) → f ≡ g
-inverted-unique a f g p q = stands-unique p q
 
 pub lowered-unique : (a : Fraction) (f g : Fraction) → Stands f (value a) → Stands g (value a) → f ≡ g
 lowered-unique a f g p q = stands-unique p q

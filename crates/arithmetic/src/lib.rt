@@ -4,15 +4,14 @@ pub mod reduce;
 use crate::reduce::lowest;
 use crate::reduce::made;
 use fraction::Fraction;
-use integer::signed::opposite;
-use integer::signed::size;
-use integer::signed::size_wide;
-use integer::signed::times;
-use integer::signed::wide;
+use integer::times;
+use integer::wide;
+use sizes::size;
+use sizes::size_wide;
 ghost use mathlib.Core.Path.{_≡_};
 ghost use Prim.Native.Nat.{_<_, _≤_, _*_};
 ghost use lib.IntN.{natAbs};
-ghost use Rattle.fraction.specs.Exact.{negℚ, inverse, value};
+ghost use Rattle.fraction.specs.Exact.{value};
 ghost use Rattle.fraction.specs.Limits.{limit};
 ghost use Rattle.arithmetic.specs.Values.{Good, Stands};
 
@@ -30,29 +29,6 @@ pub fn bottoms(a: Fraction, b: Fraction) -> u64
     ensures { λ r. ⌜ 0 < r ⌝ }
 {
     size_wide(times(a.den, b.den))
-}
-
-// The limits are the same on both sides of zero, so this is never refused.
-pub fn negated(a: Fraction) -> Fraction
-    requires { ⌜ Good a ⌝ }
-    ensures { λ r. ⌜ Stands r (negℚ (value a)) ⌝ }
-{
-    Fraction {
-        num: opposite(a.num),
-        den: a.den,
-    }
-}
-
-// 1 / a, and 0 for 0. A fraction in lowest terms stays so upside down.
-pub fn inverted(a: Fraction) -> Fraction
-    requires { ⌜ Good a ⌝ }
-    ensures { λ r. ⌜ Stands r (inverse (value a)) ⌝ }
-{
-    let bottom = size(a.num);
-    if bottom == 0 {
-        return a;
-    }
-    made(wide(a.num), size(a.den), bottom)
 }
 
 // A fraction as a record has it, in lowest terms: never refused, since neither number gets larger.

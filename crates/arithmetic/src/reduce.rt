@@ -3,9 +3,9 @@ use crate::Made;
 use answer::RANGE;
 use euclid::greatest;
 use fraction::Fraction;
-use integer::signed::narrow;
-use integer::signed::put_back;
-use integer::signed::size_wide;
+use sizes::narrow;
+use sizes::put_back;
+use sizes::size_wide;
 ghost use mathlib.Core.Path.{_≡_};
 ghost use Prim.Native.Nat.{_/_, _<_, _≤_, _^_};
 ghost use lib.IntN.{pos, natAbs};
@@ -37,7 +37,7 @@ pub(crate) fn lowest(top: u64, bottom: u64) -> Terms
 }
 
 // The sign is put back last: all else goes by sizes.
-pub(crate) fn made(like: i64, top: u64, bottom: u64) -> Fraction
+pub fn made(like: i64, top: u64, bottom: u64) -> Fraction
     requires { ⌜ top ≤ 2147483647 ⌝ }
     requires { ⌜ bottom ≤ 2147483647 ⌝ }
     ensures { λ r. ⌜ (r .num ≡ signed like top) × (r .den ≡ pos bottom) ⌝ }

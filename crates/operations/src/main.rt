@@ -72,9 +72,9 @@ fn show_fraction(f: Fraction) {
     if f.num < 0 {
         io::write_all(1, b"-");
     }
-    io::print_decimal(1, integer::signed::size(f.num));
+    io::print_decimal(1, sizes::size(f.num));
     io::write_all(1, b"/");
-    io::print_decimal(1, integer::signed::size(f.den));
+    io::print_decimal(1, sizes::size(f.den));
 }
 
 fn wide(x: u8) -> u64 {

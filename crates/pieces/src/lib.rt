@@ -1,7 +1,7 @@
 // The pieces of a row's line.
-use integer::signed::size;
 use problem::COLUMNS;
 use problem::TERMS;
+use sizes::size;
 use text::put_byte;
 use text::put_decimal;
 ghost use mathlib.Core.Path.{_≡_};

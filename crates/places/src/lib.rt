@@ -1,7 +1,7 @@
 // The places of a row: whether each holds a fraction in lowest terms within the limits.
 use euclid::greatest;
-use integer::signed::size;
 use problem::COLUMNS;
+use sizes::size;
 ghost use mathlib.Core.Path.{_≡_};
 ghost use Rattle.listing.specs.Listing.{isFraction, allFractions, placesOf};
 ghost use Rattle.places.specs.Listable.{Long};

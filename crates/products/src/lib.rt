@@ -1,10 +1,10 @@
 // The product and the quotient of two fractions.
 use arithmetic::Made;
 use arithmetic::bottoms;
-use arithmetic::inverted;
-use arithmetic::negated;
 use arithmetic::reduce::reduced;
 use fraction::Fraction;
+use inverses::inverted;
+use inverses::negated;
 ghost use mathlib.Core.Path.{_≡_};
 ghost use lib.IntN.{pos};
 ghost use Rattle.fraction.specs.Exact.{value};
@@ -17,7 +17,7 @@ fn product_plain(a: Fraction, b: Fraction) -> Made
     requires { ⌜ Good b ⌝ }
     ensures { λ r. ⌜ Answers r (times (value a) (value b)) ⌝ }
 {
-    reduced(integer::signed::times(a.num, b.num), bottoms(a, b))
+    reduced(integer::times(a.num, b.num), bottoms(a, b))
 }
 
 // A whole number times a fraction: times 1 and times -1 need no gcd.

@@ -22,8 +22,8 @@ fn factor_of(k: Fraction) -> Fraction
     requires { ⌜ Good k ⌝ }
     ensures { λ r. ⌜ Stands r (negℚ (inverse (value k))) ⌝ }
 {
-    let inverse = arithmetic::inverted(k);
-    arithmetic::negated(inverse)
+    let inverse = inverses::inverted(k);
+    inverses::negated(inverse)
 }
 
 // Column c of the form, from the factor and the difference's number there.

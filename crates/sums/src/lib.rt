@@ -1,10 +1,10 @@
 // The sum and the difference of two fractions.
 use arithmetic::Made;
 use arithmetic::bottoms;
-use arithmetic::negated;
 use arithmetic::reduce::reduced;
 use fraction::Fraction;
-use integer::signed::times;
+use integer::times;
+use inverses::negated;
 ghost use mathlib.Core.Path.{_≡_};
 ghost use Prim.Native.Nat.{_<_, _^_};
 ghost use lib.IntN.{natAbs, _+ℤ_, _*ℤ_};
@@ -19,7 +19,7 @@ fn cross(a: Fraction, b: Fraction) -> i64
     ensures { λ r. ⌜ r ≡ a .num *ℤ b .den +ℤ b .num *ℤ a .den ⌝ }
     ensures { λ r. ⌜ natAbs r < 2 ^ 63 ⌝ }
 {
-    integer::signed::plus(times(a.num, b.den), times(b.num, a.den))
+    integer::plus(times(a.num, b.den), times(b.num, a.den))
 }
 
 // Any two summands.

@@ -4,13 +4,11 @@ use mathlib.Core.Path.{_≡_}
 use mathlib.Core.List.{List}
 use Prim.Native.Nat.{ℕ}
 use lib.IntN.{ℤ}
-use denote.Ref.{now}
 use Rattle.answer.specs.declared.Answer.{Answer}
 use Rattle.listing.specs.Listing.{listRow}
 use Rattle.lines.specs.declared.Reached.{Reached}
 use Rattle.lines.specs.Leaves.{leaves, listFirst}
 use Rattle.lines.proofs.Unique.{leaves-unique}
-use Rattle.writer.specs.declared.Writer.{Writer}
 
 module _ (r s : Reached) (after after′ : List ℕ) where
   pub row-into-unique : (nums dens : List ℤ) (t place : ℕ) (before : List ℕ) → leaves r after ≡ listRow nums dens t place before → leaves s after′ ≡ listRow nums dens t place before → (r ≡ s) × (after ≡ after′)
@@ -18,10 +16,3 @@ module _ (r s : Reached) (after after′ : List ℕ) where
 
   pub first-into-unique : (answer : Answer) (place : ℕ) (before : List ℕ) → leaves r after ≡ listFirst answer place before → leaves s after′ ≡ listFirst answer place before → (r ≡ s) × (after ≡ after′)
   first-into-unique answer place before = leaves-unique r s after after′ (listFirst answer place before)
-
-  -- of a writer, at its place and its buffer
-  pub list-row-unique : (w : Writer) (nums dens : List ℤ) (t : ℕ) → leaves r after ≡ listRow nums dens t (w .at) (now (w .buf)) → leaves s after′ ≡ listRow nums dens t (w .at) (now (w .buf)) → (r ≡ s) × (after ≡ after′)
-  list-row-unique w nums dens t = row-into-unique nums dens t (w .at) (now (w .buf))
-
-  pub first-line-unique : (w : Writer) (answer : Answer) → leaves r after ≡ listFirst answer (w .at) (now (w .buf)) → leaves s after′ ≡ listFirst answer (w .at) (now (w .buf)) → (r ≡ s) × (after ≡ after′)
-  first-line-unique w answer = first-into-unique answer (w .at) (now (w .buf))

@@ -1,41 +1,21 @@
-// The line writer: it carries the caller's buffer and the place reached.
+// The line writer's lines for a plain buffer and a place: whoever calls these needs no writer of its own.
 use answer::Answer;
+use line_writer::Writer;
+use line_writer::first_line;
+use line_writer::list_row;
 use lines::Reached;
-use lines::first_line_at;
-use lines::list_row_at;
 ghost use mathlib.Core.Path.{_≡_};
 ghost use Rattle.listing.specs.Listing.{listRow};
 ghost use Rattle.lines.specs.Leaves.{leaves, listFirst};
 
-// 01, The listing: "The line writer carries the caller's buffer and the place reached."
-pub struct Writer<'a> {
-    pub buf: &'a mut [u8],
-    pub at: usize,
-}
-
-// Lists row t at the place reached: "the new place reached, or on refusal the number and the old place".
-pub fn list_row<'a>(w: Writer<'a>, nums: &[i32], dens: &[i32], t: usize) -> Reached
-    ensures { λ r. ⌜ leaves r (now (w .exit .0)) ≡ listRow (now (nums .entry)) (now (dens .entry)) t (w .entry .at) (now (w .entry .buf)) ⌝ }
-{
-    let at = w.at;
-    list_row_at(&mut *w.buf, at, nums, dens, t)
-}
-
-// Writes the first line of an answer at the place reached.
-pub fn first_line<'a>(w: Writer<'a>, answer: Answer) -> Reached
-    ensures { λ r. ⌜ leaves r (now (w .exit .0)) ≡ listFirst answer (w .entry .at) (now (w .entry .buf)) ⌝ }
-{
-    let at = w.at;
-    first_line_at(&mut *w.buf, at, answer)
-}
-
-// The same for a plain buffer and a place: whoever calls it needs no writer of its own.
+// Lists row t at a place of the buffer.
 pub fn row_into(buf: &mut [u8], at: usize, nums: &[i32], dens: &[i32], t: usize) -> Reached
     ensures { λ r. ⌜ leaves r (now (buf .exit)) ≡ listRow (now (nums .entry)) (now (dens .entry)) t at (now (buf .entry)) ⌝ }
 {
     list_row(Writer { buf, at }, nums, dens, t)
 }
 
+// Writes the first line of an answer at a place of the buffer.
 pub fn first_into(buf: &mut [u8], at: usize, answer: Answer) -> Reached
     ensures { λ r. ⌜ leaves r (now (buf .exit)) ≡ listFirst answer at (now (buf .entry)) ⌝ }
 {

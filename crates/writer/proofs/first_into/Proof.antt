@@ -40,19 +40,19 @@ use denote.Signature.{plain}
 use Rattle.answer.specs.declared.Answer.{Answer}
 use Rattle.lines.specs.Leaves.{leaves, listFirst}
 use Rattle.lines.specs.declared.Reached.{Reached}
-use Rattle.writer.specs.declared.Writer.{Writer}
-use Rattle.writer.proofs.first_line.Symbol.{name as #writer·first-line}
+use Rattle.line_writer.specs.declared.Writer.{Writer}
+use Rattle.line_writer.proofs.first_line.Symbol.{name as #line-writer·first-line}
 use Rattle.writer.proofs.first_into.Key.{name as #writer·first-into}
 use denote.Enum.Laws as EL
 use Rattle.answer.proofs.Answer as E
 use Rattle.answer.proofs.Answer.Laws as E′
 use Rattle.lines.proofs.Reached as S
 use Rattle.lines.proofs.Reached.Laws as S′
-use Rattle.writer.proofs.Writer as T
-use Rattle.writer.proofs.Writer.Laws as T′
-use Rattle.writer.proofs.first_line as lister
-use Rattle.writer.proofs.first_line.Symbol as lister-def
-use Rattle.writer.proofs.first_line.Met as lister-thm
+use Rattle.line_writer.proofs.Writer as T
+use Rattle.line_writer.proofs.Writer.Laws as T′
+use Rattle.line_writer.proofs.first_line as lister
+use Rattle.line_writer.proofs.first_line.Symbol as lister-def
+use Rattle.line_writer.proofs.first_line.Met as lister-thm
 use Rattle.writer.proofs.first_into as first-into
 use Rattle.writer.proofs.first_into.Statement as stated
 use Rattle.writer.proofs.first_into.Code as code
@@ -141,7 +141,7 @@ module _ {M : Type 1} (𝓤 : URA M) (H : Heap 𝓤) (A : Atoms 𝓤) (W : Given
       -- [the buffer's last content; the result; what the answer owns]
       nothing ! $ move ! (3 ∷ 0 ∷ []) $ fjoin ! $ owned ! usize (Is usize) (uint-makes 𝓤 H A W w64) n _ (refl, n-fits) $ fjoin ! $ move ! (1 ∷ 0 ∷ []) $ fjoin ! $ done !
 
-  module _ (C : Calls 𝓤 H) (Λ : Loops 𝓤 H) (fm : FmC 𝓤 H (W .laws) C) (known : Triple 𝓤 (C #writer·first-line) (Lister 𝓤 H A mem run)) where
+  module _ (C : Calls 𝓤 H) (Λ : Loops 𝓤 H) (fm : FmC 𝓤 H (W .laws) C) (known : Triple 𝓤 (C #line-writer·first-line) (Lister 𝓤 H A mem run)) where
     walk : Room u8 (length ys) → Is E.the-row answer (v ∷ []) → ent 𝓤 (onEntry 𝓤 H A first-into.signature (κ, tt) (q, tt) a vals) (WpFn 𝓤 H C Λ code.function (s ∷ vint w64 n ∷ v ∷ []) Post)
     walk room g₁ =
         qed W ((‵ (flft κ q) ⊛ ‵ ftrue) ∷ ‵ (owns (MutSlice (named 0) κ u8 ∷ usize ∷ E.the-row ∷ []) a vals) ∷ []) ∵ enter ! C Λ code.function (s ∷ vint w64 n ∷ v ∷ []) _ $
@@ -169,12 +169,12 @@ module _ {M : Type 1} (𝓤 : URA M) (H : Heap 𝓤) (A : Atoms 𝓤) (W : Given
         keep ! (1 ∷ 2 ∷ 0 ∷ 5 ∷ []) $ by ! (exits r w (zs .0 .0) e l))))))))))))))
 
 module _ {M : Type 1} (𝓤 : URA M) (H : Heap 𝓤) (A : Atoms 𝓤) (W : Given 𝓤 H A) (mem : Memory → SProp 𝓤) (run : Routine → Fun 𝓤) where
-  first-into-walks : (C : Calls 𝓤 H) (Λ : Loops 𝓤 H) → FmC 𝓤 H (W .laws) C → Triple 𝓤 (C #writer·first-line) (Lister 𝓤 H A mem run) → Walks 𝓤 H A first-into.ended stayed (WpFn 𝓤 H C Λ code.function) (first-into.clauses 𝓤 H A mem run)
+  first-into-walks : (C : Calls 𝓤 H) (Λ : Loops 𝓤 H) → FmC 𝓤 H (W .laws) C → Triple 𝓤 (C #line-writer·first-line) (Lister 𝓤 H A mem run) → Walks 𝓤 H A first-into.ended stayed (WpFn 𝓤 H C Λ code.function) (first-into.clauses 𝓤 H A mem run)
   first-into-walks C Λ fm known = walked 𝓤 H A first-into.ended stayed (first-into.clauses 𝓤 H A mem run) (WpFn 𝓤 H C Λ code.function)
       (λ κs. (slice-vals, (uint-vals w64, (EL.vals E.the-type E′.the-laws, tt)))) (λ κs. (mut-slice-tells (named 0) (κs .0) u8, (uint-tells w64, (EL.tells E.the-type E′.the-laws, tt))))
       (λ κs qs bounds a g are. via 𝓤 _ (fst∗ 𝓤 _ (emp 𝓤)) (walk 𝓤 H A W mem run (κs .0) (qs .0) (a .0 .ptr .0) (a .0 .ptr .1) (a .0 .name) (a .0 .now) (a .1 .0) (a .1 .1 .0) (are .1 .0 .1) C Λ fm known (are .0 .0 .1) (are .1 .1 .0)))
 
-first-into-meets : {M : Type 1} (𝓤 : URA M) (H : Heap 𝓤) (A : Atoms 𝓤) → Given 𝓤 H A → (mem : Memory → SProp 𝓤) (run : Routine → Fun 𝓤) (𝓣 : Tables 𝓤 H) → Triple 𝓤 (𝓣 .C #writer·first-line) (Lister 𝓤 H A mem run)
+first-into-meets : {M : Type 1} (𝓤 : URA M) (H : Heap 𝓤) (A : Atoms 𝓤) → Given 𝓤 H A → (mem : Memory → SProp 𝓤) (run : Routine → Fun 𝓤) (𝓣 : Tables 𝓤 H) → Triple 𝓤 (𝓣 .C #line-writer·first-line) (Lister 𝓤 H A mem run)
     → Meets 𝓤 H A first-into.signature (WpFn 𝓤 H (𝓣 .C) (𝓣 .Λ) code.function) (first-into.spec 𝓤 H A mem run)
 first-into-meets 𝓤 H A W mem run 𝓣 known =
     walk-meets 𝓤 H A first-into.ended stayed W (goes-gave-slice 𝓤 H A W 1 0 tt (plain (λ _. u8)), (goes-none 𝓤 H A W 1 (λ _. usize) yes (λ κs x f. refl), (goes-none 𝓤 H A W 1 (λ _. E.the-row) yes (λ κs x f. refl), tt))) (first-into.clauses 𝓤 H A mem run)
@@ -186,4 +186,4 @@ first-into-spec 𝓤 H 𝓜 𝓖 𝓡 =
     entered 𝓤 H (tripleOf 𝓤 H (𝓖 .A) first-into.signature (first-into.spec 𝓤 H (𝓖 .A) (𝓜 .mem) (𝓡 .run)))
     (tables 𝓤 H 𝓜 𝓡 code.env .C) (tables 𝓤 H 𝓜 𝓡 code.env .Λ) #writer·first-into code.function (code.unfolded 𝓤 H 𝓜 𝓡)
     (first-into-meets 𝓤 H (𝓖 .A) (givenOf 𝓤 H 𝓜 𝓖) (𝓜 .mem) (𝓡 .run) (tablesOf 𝓤 H 𝓜 (tables 𝓤 H 𝓜 𝓡 code.env))
-    (cited 𝓤 H (Lister 𝓤 H (𝓖 .A) (𝓜 .mem) (𝓡 .run)) 𝓜 𝓡 code.env #writer·first-line lister-def.routine code.calls-writer·first-line (lister-thm.met 𝓤 H 𝓜 𝓖 𝓡)))
+    (cited 𝓤 H (Lister 𝓤 H (𝓖 .A) (𝓜 .mem) (𝓡 .run)) 𝓜 𝓡 code.env #line-writer·first-line lister-def.routine code.calls-line-writer·first-line (lister-thm.met 𝓤 H 𝓜 𝓖 𝓡)))

@@ -42,17 +42,17 @@ use denote.Signature.{plain}
 use Rattle.listing.specs.Listing.{listRow}
 use Rattle.lines.specs.Leaves.{leaves}
 use Rattle.lines.specs.declared.Reached.{Reached}
-use Rattle.writer.specs.declared.Writer.{Writer}
-use Rattle.writer.proofs.list_row.Symbol.{name as #writer·list-row}
+use Rattle.line_writer.specs.declared.Writer.{Writer}
+use Rattle.line_writer.proofs.list_row.Symbol.{name as #line-writer·list-row}
 use Rattle.writer.proofs.row_into.Key.{name as #writer·row-into}
 use denote.Enum.Laws as EL
 use Rattle.lines.proofs.Reached as S
 use Rattle.lines.proofs.Reached.Laws as S′
-use Rattle.writer.proofs.Writer as T
-use Rattle.writer.proofs.Writer.Laws as T′
-use Rattle.writer.proofs.list_row as lister
-use Rattle.writer.proofs.list_row.Symbol as lister-def
-use Rattle.writer.proofs.list_row.Met as lister-thm
+use Rattle.line_writer.proofs.Writer as T
+use Rattle.line_writer.proofs.Writer.Laws as T′
+use Rattle.line_writer.proofs.list_row as lister
+use Rattle.line_writer.proofs.list_row.Symbol as lister-def
+use Rattle.line_writer.proofs.list_row.Met as lister-thm
 use Rattle.writer.proofs.row_into as row-into
 use Rattle.writer.proofs.row_into.Statement as stated
 use Rattle.writer.proofs.row_into.Code as code
@@ -152,7 +152,7 @@ module _ {M : Type 1} (𝓤 : URA M) (H : Heap 𝓤) (A : Atoms 𝓤) (W : Given
       nothing ! $ owned ! usize (Is usize) (uint-makes 𝓤 H A W w64) t _ (refl, t-fits) $ fjoin ! $ move ! (4 ∷ 0 ∷ []) $ fjoin ! $ move ! (3 ∷ 0 ∷ []) $ fjoin ! $
       owned ! usize (Is usize) (uint-makes 𝓤 H A W w64) n _ (refl, n-fits) $ fjoin ! $ move ! (1 ∷ 0 ∷ []) $ fjoin ! $ done !
 
-  module _ (C : Calls 𝓤 H) (Λ : Loops 𝓤 H) (fm : FmC 𝓤 H (W .laws) C) (known : Triple 𝓤 (C #writer·list-row) (Lister 𝓤 H A mem run)) where
+  module _ (C : Calls 𝓤 H) (Λ : Loops 𝓤 H) (fm : FmC 𝓤 H (W .laws) C) (known : Triple 𝓤 (C #line-writer·list-row) (Lister 𝓤 H A mem run)) where
     walk : Room u8 (length ys) → Is (ShrSlice (named 1) κ₁ i32) nums (s₁ ∷ []) → Is (ShrSlice (named 2) κ₂ i32) dens (s₂ ∷ [])
         → ent 𝓤 (onEntry 𝓤 H A row-into.signature κs (q, (q₁, (q₂, tt))) a vals) (WpFn 𝓤 H C Λ code.function (s ∷ vint w64 n ∷ s₁ ∷ s₂ ∷ vint w64 t ∷ []) Post)
     walk room g₁ g₂ =
@@ -182,14 +182,14 @@ module _ {M : Type 1} (𝓤 : URA M) (H : Heap 𝓤) (A : Atoms 𝓤) (W : Given
         keep ! (1 ∷ 2 ∷ 0 ∷ 5 ∷ 6 ∷ []) $ by ! (exits r w (zs .0 .0) e l))))))))))))))))
 
 module _ {M : Type 1} (𝓤 : URA M) (H : Heap 𝓤) (A : Atoms 𝓤) (W : Given 𝓤 H A) (mem : Memory → SProp 𝓤) (run : Routine → Fun 𝓤) where
-  row-into-walks : (C : Calls 𝓤 H) (Λ : Loops 𝓤 H) → FmC 𝓤 H (W .laws) C → Triple 𝓤 (C #writer·list-row) (Lister 𝓤 H A mem run) → Walks 𝓤 H A row-into.ended stayed (WpFn 𝓤 H C Λ code.function) (row-into.clauses 𝓤 H A mem run)
+  row-into-walks : (C : Calls 𝓤 H) (Λ : Loops 𝓤 H) → FmC 𝓤 H (W .laws) C → Triple 𝓤 (C #line-writer·list-row) (Lister 𝓤 H A mem run) → Walks 𝓤 H A row-into.ended stayed (WpFn 𝓤 H C Λ code.function) (row-into.clauses 𝓤 H A mem run)
   row-into-walks C Λ fm known = walked 𝓤 H A row-into.ended stayed (row-into.clauses 𝓤 H A mem run) (WpFn 𝓤 H C Λ code.function)
       (λ κs. (slice-vals, (uint-vals w64, (slice-vals, (slice-vals, (uint-vals w64, tt))))))
       (λ κs. (mut-slice-tells (named 0) (κs .0) u8, (uint-tells w64, (shr-slice-tells (named 1) (κs .1 .0) i32, (shr-slice-tells (named 2) (κs .1 .1 .0) i32, (uint-tells w64, tt))))))
       (λ κs qs bounds a g are. via 𝓤 _ (fst∗ 𝓤 _ (emp 𝓤))
       (walk 𝓤 H A W mem run (κs .0) (κs .1 .0) (κs .1 .1 .0) (qs .0) (qs .1 .0) (qs .1 .1 .0) (a .0 .ptr .0) (a .0 .ptr .1) (a .0 .name) (a .0 .now) (a .1 .0) (a .1 .1 .0) (a .1 .1 .1 .0) (a .1 .1 .1 .1 .0) (are .1 .0 .1) (are .1 .1 .1 .1 .0 .1) C Λ fm known (are .0 .0 .1) (are .1 .1 .0) (are .1 .1 .1 .0)))
 
-row-into-meets : {M : Type 1} (𝓤 : URA M) (H : Heap 𝓤) (A : Atoms 𝓤) → Given 𝓤 H A → (mem : Memory → SProp 𝓤) (run : Routine → Fun 𝓤) (𝓣 : Tables 𝓤 H) → Triple 𝓤 (𝓣 .C #writer·list-row) (Lister 𝓤 H A mem run)
+row-into-meets : {M : Type 1} (𝓤 : URA M) (H : Heap 𝓤) (A : Atoms 𝓤) → Given 𝓤 H A → (mem : Memory → SProp 𝓤) (run : Routine → Fun 𝓤) (𝓣 : Tables 𝓤 H) → Triple 𝓤 (𝓣 .C #line-writer·list-row) (Lister 𝓤 H A mem run)
     → Meets 𝓤 H A row-into.signature (WpFn 𝓤 H (𝓣 .C) (𝓣 .Λ) code.function) (row-into.spec 𝓤 H A mem run)
 row-into-meets 𝓤 H A W mem run 𝓣 known =
     walk-meets 𝓤 H A row-into.ended stayed W
@@ -202,4 +202,4 @@ row-into-spec 𝓤 H 𝓜 𝓖 𝓡 =
     entered 𝓤 H (tripleOf 𝓤 H (𝓖 .A) row-into.signature (row-into.spec 𝓤 H (𝓖 .A) (𝓜 .mem) (𝓡 .run)))
     (tables 𝓤 H 𝓜 𝓡 code.env .C) (tables 𝓤 H 𝓜 𝓡 code.env .Λ) #writer·row-into code.function (code.unfolded 𝓤 H 𝓜 𝓡)
     (row-into-meets 𝓤 H (𝓖 .A) (givenOf 𝓤 H 𝓜 𝓖) (𝓜 .mem) (𝓡 .run) (tablesOf 𝓤 H 𝓜 (tables 𝓤 H 𝓜 𝓡 code.env))
-    (cited 𝓤 H (Lister 𝓤 H (𝓖 .A) (𝓜 .mem) (𝓡 .run)) 𝓜 𝓡 code.env #writer·list-row lister-def.routine code.calls-writer·list-row (lister-thm.met 𝓤 H 𝓜 𝓖 𝓡)))
+    (cited 𝓤 H (Lister 𝓤 H (𝓖 .A) (𝓜 .mem) (𝓡 .run)) 𝓜 𝓡 code.env #line-writer·list-row lister-def.routine code.calls-line-writer·list-row (lister-thm.met 𝓤 H 𝓜 𝓖 𝓡)))

@@ -1,7 +1,7 @@
 // The first line of a listing, written at a place of a lent buffer.
 use answer::Answer;
+use decimal::put_decimal;
 use text::put_byte;
-use text::put_decimal;
 use text::put_text;
 ghost use mathlib.Core.List.{_++_};
 ghost use Prim.Native.Nat.{_+_, _≤_};

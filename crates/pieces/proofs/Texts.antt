@@ -19,7 +19,7 @@ use Rattle.arithmetic.proofs.Lowest.{lowest-num, lowest-den}
 use Rattle.run.specs.Row.{Row, TERMS, constant, column}
 use Rattle.listing.specs.Text.{ascii, decimal}
 use Rattle.listing.specs.Line.{signOf, fractionText, termText, piece, pieces}
-use Rattle.text.proofs.Decimal.{decimal-length}
+use Rattle.decimal.proofs.Decimal.{decimal-length}
 use Rattle.pieces.specs.Over.{overText}
 use Rattle.places.proofs.Fractions.{and-true, Shown}
 

@@ -1,9 +1,9 @@
 // The pieces of a row's line.
+use decimal::put_decimal;
 use problem::COLUMNS;
 use problem::TERMS;
 use sizes::size;
 use text::put_byte;
-use text::put_decimal;
 ghost use mathlib.Core.Path.{_≡_};
 ghost use mathlib.Core.Bool.{true};
 ghost use mathlib.Core.List.{[], _∷_};

@@ -36,7 +36,7 @@ use Rattle.decide.specs.Decided.{Decided}
 use Rattle.listing.specs.Text.{ascii}
 use Rattle.listing.specs.Line.{wordsOf, firstLine}
 use Rattle.listing.specs.Listing.{listed, listing, putAt, Listed}
-use Rattle.text.proofs.Decimal.{decimal-length}
+use Rattle.decimal.proofs.Decimal.{decimal-length}
 use Rattle.page.specs.Page.{rowsListed, endOf, pageOf, Paged}
 use Rattle.printed.proofs.Limits.{run-limited}
 use Rattle.printed.proofs.Pages.{put, first-alone, first-then-rows}

@@ -11,7 +11,7 @@ use Rattle.run.specs.Row.{Row, TERMS, COLUMNS, column}
 use Rattle.listing.specs.Text.{ascii}
 use Rattle.listing.specs.Line.{pieces, orZero, rowLine}
 use Rattle.text.specs.Wrote.{Wrote}
-use Rattle.text.proofs.Decimal.{decimal-length}
+use Rattle.decimal.proofs.Decimal.{decimal-length}
 use Rattle.text.proofs.Placing.{wrote-then}
 use Rattle.pieces.proofs.Texts.{pieces-length}
 

@@ -1,7 +1,7 @@
 // The line of a row, written at a place of a lent buffer.
+use decimal::put_decimal;
 use pieces::put_pieces;
 use text::put_byte;
-use text::put_decimal;
 use text::put_text;
 ghost use Prim.Native.Nat.{_+_, _≤_};
 ghost use lib.ListN.{length};

@@ -3,7 +3,6 @@
 use mathlib.Core.Path.{_≡_, sym, _∙_}
 use mathlib.Core.List.{List, [], _∷_}
 use Prim.Native.Nat.{ℕ}
-use Rattle.listing.specs.Text.{decimal}
 use Rattle.text.specs.Wrote.{Wrote}
 
 module _ (text : List ℕ) (place : ℕ) (before after after′ : List ℕ) (next next′ : ℕ) where
@@ -17,6 +16,3 @@ module _ (text : List ℕ) (place : ℕ) (before after after′ : List ℕ) (nex
 module _ (b place : ℕ) (before after after′ : List ℕ) (next next′ : ℕ) where
   pub put-byte-unique : Wrote (b ∷ []) place before after next → Wrote (b ∷ []) place before after′ next′ → (after ≡ after′) × (next ≡ next′)
   put-byte-unique = wrote-unique (b ∷ []) place before after after′ next next′
-
-  pub put-decimal-unique : Wrote (decimal b) place before after next → Wrote (decimal b) place before after′ next′ → (after ≡ after′) × (next ≡ next′)
-  put-decimal-unique = wrote-unique (decimal b) place before after after′ next next′

@@ -1,8 +1,7 @@
-// Texts and numbers in decimal, written into a lent buffer.
+// Bytes and texts, written into a lent buffer.
 ghost use mathlib.Core.List.{[], _∷_};
 ghost use Prim.Native.Nat.{_+_, _<_, _≤_};
 ghost use lib.ListN.{length};
-ghost use Rattle.listing.specs.Text.{decimal};
 ghost use Rattle.text.specs.Wrote.{Wrote};
 
 // Writes one byte at a place, and says where the next one goes.
@@ -25,16 +24,4 @@ pub fn put_text(buf: &mut [u8], at: usize, text: &[u8]) -> usize
         i += 1;
     }
     at + i
-}
-
-// A number in decimal: the digits before the last are those of a tenth, rounded down.
-pub fn put_decimal(buf: &mut [u8], at: usize, x: u64) -> usize
-    requires { ⌜ at + length (decimal x) ≤ length (now buf) ⌝ }
-    ensures { λ r. ⌜ Wrote (decimal x) at (now (buf .entry)) (now (buf .exit)) r ⌝ }
-{
-    if x < 10 {
-        return put_byte(buf, at, (48 + x) as u8);
-    }
-    let next = put_decimal(buf, at, x / 10);
-    put_byte(buf, next, (48 + x % 10) as u8)
 }

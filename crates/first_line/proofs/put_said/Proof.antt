@@ -5,7 +5,7 @@ use native.Mathlib.Omega.{arith}
 use lib.ListN.{length, length-append}
 use borrow.Author.Needs.{needs}
 use Rattle.listing.specs.Text.{ascii, decimal}
-use Rattle.text.proofs.Decimal.{decimal-length}
+use Rattle.decimal.proofs.Decimal.{decimal-length}
 use Rattle.text.proofs.Placing.{Put, put-then}
 use Rattle.first_line.proofs.put_said.Statement.{statement}
 use Rattle.first_line.proofs.put_said.Tie as tie

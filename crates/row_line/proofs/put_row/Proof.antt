@@ -7,7 +7,7 @@ use borrow.Author.Needs.{needs}
 use Rattle.run.specs.Row.{TERMS, COLUMNS}
 use Rattle.listing.specs.Text.{ascii, decimal}
 use Rattle.listing.specs.Line.{pieces, orZero, rowLine}
-use Rattle.text.proofs.Decimal.{decimal-length}
+use Rattle.decimal.proofs.Decimal.{decimal-length}
 use Rattle.text.proofs.Placing.{Put, put-then}
 use Rattle.places.specs.Listable.{rowHeld}
 use Rattle.pieces.proofs.Rows.{row-within}

@@ -1,4 +1,4 @@
--- `text::put_decimal` meets its contract: the number falls at each call. Assumes nothing.
+-- `decimal::put_decimal` meets its contract: the number falls at each call. Assumes nothing.
 use mathlib.Core.Path.{_≡_, ap, _∙_}
 use Prim.Native.Nat.{ℕ, _+_, _/_, _≤_, _<_}
 use native.Mathlib.Omega.{arith}
@@ -7,14 +7,14 @@ use borrow.Author.Needs.{needs}
 use borrow.Fn.Kinds.{In}
 use borrow.Fn.PlainCycle.{Measures, is, falls, and}
 use Rattle.listing.specs.Text.{decimal}
-use Rattle.text.proofs.Decimal.{decimal-digit, decimal-step}
+use Rattle.decimal.proofs.Decimal.{decimal-digit, decimal-step}
 use Rattle.text.proofs.Placing.{wrote-then}
-use Rattle.text.proofs.+put_decimal.{statement}
-use Rattle.text.proofs.+put_decimal.Tie.{close}
-use Rattle.text.proofs.put_decimal.Reads as put-decimal
-use Rattle.text.proofs.put_decimal.Kinds as put-decimal-kinds
-use Rattle.text.proofs.+put_decimal.Lts-put_decimal as put-decimal-lts
+use Rattle.decimal.proofs.+put_decimal.{statement}
+use Rattle.decimal.proofs.+put_decimal.Tie.{close}
+use Rattle.decimal.proofs.put_decimal.Reads as put-decimal
+use Rattle.decimal.proofs.put_decimal.Kinds as put-decimal-kinds
+use Rattle.decimal.proofs.+put_decimal.Lts-put_decimal as put-decimal-lts
 use Rattle.text.proofs.put_byte.Reads as put-byte-reads
 
 -- one digit more than a tenth has
 digits-of : (x : ℕ) → 10 ≤ x → length (decimal x) ≡ length (decimal (x / 10)) + 1

@@ -42,7 +42,7 @@ fn rows_into(buf: &mut [u8], at: usize, nums: &[i32], dens: &[i32], n: usize) ->
 }
 
 // Lists a decided problem of n terms at a place. A line that is refused ends the listing; the lines before it stay.
-pub fn listing_into(
+fn listing_into(
     buf: &mut [u8],
     at: usize,
     answer: Answer,

@@ -1,9 +1,7 @@
 // A term or a pair of a problem that was read.
 use cursor::Cursor;
-use problem::Kind;
 use problem::Term;
-use record::TermRead;
-use record::read_term;
+use record::held_term;
 ghost use mathlib.Core.Path.{_≡_};
 ghost use Rattle.fraction.specs.Made.{made};
 ghost use Rattle.problem.specs.Pairs.{pairThere};
@@ -21,12 +19,7 @@ pub fn term_at(bytes: &[u8], t: usize) -> Term
     requires { ⌜ TermHeld (now bytes) t ⌝ }
     ensures { λ r. ⌜ made r ≡ termAt (now (bytes .entry)) t ⌝ }
 {
-    match read_term(bytes, t) {
-        TermRead::Sound(term) => term,
-        TermRead::Faulty => Term {
-            kind: Kind::Variable { symbol: 0 },
-        },
-    }
+    held_term(bytes, t)
 }
 
 // The sides of pair `k`, from 1, of a problem of `n` terms that was read.

@@ -1,18 +1,19 @@
 -- The tests of a term record, as the code makes them.
--- Main results: `zeros-total`, `other-kinds`. Assume nothing.
+-- Main results: `zeros-total`, `other-kinds`, `holds-unless`. Assume nothing.
 use mathlib.Core.Path.{_≡_, refl, sym, ap, _∙_}
-use mathlib.Core.Bool.{Bool, _&&_, and-true, and-assoc}
+use mathlib.Core.Bool.{Bool, true, false, _&&_, cond, and-true, and-assoc}
 use mathlib.Core.List.{List, [], _∷_}
-use mathlib.Core.Option.{none}
+use mathlib.Core.Option.{some, none}
 use Prim.Native.Nat.{ℕ, zero, suc, _+_, _-_, _<_, _≤_}
 use native.Mathlib.Omega.{arith}
 use native.Mathlib.Nat.{zero-add, le-of-suc-le-suc}
 use native.Mathlib.Decide.{decLt}
 use borrow.Author.Tests.{ne-eqb}
 use lib.Arith.{le-zero, le-of-le-suc-ne}
-use lib.Dec.{eqb}
-use Rattle.problem.specs.Record.{Fields, every, kindOf}
-use Rattle.record.specs.Terms.{zeros}
+use lib.Dec.{eqb, ltb}
+use Rattle.problem.specs.declared.Kind.{Kind}
+use Rattle.problem.specs.Record.{Fields, every, unless-faulty, kindOf}
+use Rattle.record.specs.Terms.{zeros, judged, Faultless, Holds}
 
 -- a sum, made from the left
 unfoldable pub totalFrom : ℕ → List ℕ → ℕ
@@ -52,3 +53,12 @@ other-kinds own f n1 n2 n3 n4 n5 n6 n7 n8 = go (decLt (f .kind) 9)
         let k1 : f .kind ≤ 1 = le-of-le-suc-ne {n = 1} k2 n2 in
         rw (le-zero (le-of-le-suc-ne {n = 0} k1 n1))
     go (no h) = past-table own f h
+
+-- A record that is not faulty holds the term of its kind.
+pub holds-unless : (own : ℕ) (unused inputs : List ℕ) (kind : Kind) → Holds (judged (unless-faulty own unused inputs kind)) (record { kind = kind })
+unfolding Holds Faultless judged unless-faulty
+holds-unless own unused inputs kind = go (every (λ x. eqb x 0) unused && every (λ i. ltb i own) inputs)
+  where
+    go : (sound : Bool) → Holds (judged (cond sound (some kind) none)) (record { kind = kind })
+    go true h = refl
+    go false h = absurd (h refl)

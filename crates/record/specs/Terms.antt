@@ -1,11 +1,13 @@
 -- What reading a term record answers.
--- Main definition: `termRead`. Assumes nothing.
+-- Main definitions: `termRead`, `Faultless`, `Holds`. Assumes nothing.
+use mathlib.Core.Path.{_≡_}
 use mathlib.Core.Bool.{Bool, _&&_, cond}
 use mathlib.Core.List.{List, [], _∷_}
 use mathlib.Core.Option.{Option, some, none}
 use Prim.Native.Nat.{ℕ, _+_, _*_}
 use lib.Dec.{eqb, ltb}
 use Rattle.problem.specs.declared.Kind.{Kind}
+use Rattle.problem.specs.declared.Term.{Term}
 use Rattle.problem.specs.Record.{fieldsAt, every, kindOf}
 use Rattle.record.specs.declared.TermRead.{TermRead}
 use Rattle.record.specs.declared.TermRead.the-variants.{Sound, Faulty}
@@ -27,3 +29,11 @@ checkedAs unused inputs kind = judged (cond (unused && inputs) (some kind) none)
 -- number"; term t's record is 64 bits after the header and t records
 unfoldable pub termRead : List ℕ → (own : ℕ) → TermRead
 termRead bytes own = judged (kindOf own (fieldsAt bytes (32 + 64 * own)))
+
+-- a record that is not faulty
+unfoldable pub Faultless : TermRead → Type 0
+Faultless read = read ≡ Faulty → ⊥
+
+-- if it is not, it holds this term
+unfoldable pub Holds : TermRead → Term → Type 0
+Holds read term = Faultless read → read ≡ Sound term

@@ -6,13 +6,14 @@ use problem::Kind;
 use problem::Term;
 ghost use mathlib.Core.Path.{_≡_};
 ghost use mathlib.Core.List.{_∷_, []};
-ghost use Prim.Native.Nat.{_+_, _*_, _≤_, _<_, _^_};
+ghost use Prim.Native.Nat.{ℕ, _+_, _*_, _≤_, _<_, _^_};
 ghost use lib.ListN.{length};
 ghost use lib.IntN.{pos};
 ghost use Rattle.problem.specs.Bits.{signed16};
 ghost use Rattle.problem.specs.Record.{scaled, kindOf};
 ghost use Rattle.fields.specs.Told.{told};
-ghost use Rattle.record.specs.Terms.{zeros, below, judged, checkedAs, termRead};
+ghost use Rattle.record.specs.Terms.{zeros, below, judged, checkedAs, termRead, Faultless, Holds};
+ghost use Rattle.record.specs.declared.TermRead.the-variants.{Sound};
 
 pub enum TermRead {
     Sound(Term),
@@ -233,4 +234,56 @@ pub fn read_term(bytes: &[u8], own: usize) -> TermRead
 {
     let f = read_fields(bytes, 4 + 8 * own);
     by_kind(own, f)
+}
+
+// The kind that the fields of a record say, if it is not faulty.
+fn told_kind(f: Fields) -> Kind
+    requires { ⌜ f .shift < 16 ⌝ }
+    ensures { λ r. ⌜ ((own : ℕ) → Holds (judged (kindOf own (told f))) (record { kind = r })) ⌝ }
+{
+    let kind = f.kind;
+    match kind {
+        1 => Kind::Variable { symbol: f.symbol },
+        2 => Kind::Constant {
+            value: fraction_of(f),
+        },
+        3 => Kind::Gain {
+            factor: fraction_of(f),
+            input: f.input1 as usize,
+        },
+        4 => Kind::Sum {
+            left: f.input1 as usize,
+            right: f.input2 as usize,
+        },
+        5 => Kind::Difference {
+            left: f.input1 as usize,
+            right: f.input2 as usize,
+        },
+        6 => Kind::Lookup1 {
+            symbol: f.symbol,
+            input: f.input1 as usize,
+        },
+        7 => Kind::Lookup2 {
+            symbol: f.symbol,
+            first: f.input1 as usize,
+            second: f.input2 as usize,
+        },
+        8 => Kind::Lookup3 {
+            symbol: f.symbol,
+            first: f.input1 as usize,
+            second: f.input2 as usize,
+            third: f.input3 as usize,
+        },
+        _ => Kind::Variable { symbol: f.symbol },
+    }
+}
+
+// The term with the number `own`, whose record lies within the bytes and is not judged again.
+pub fn held_term(bytes: &[u8], own: usize) -> Term
+    requires { ⌜ (own < 64) × (12 + 8 * own ≤ length (now bytes)) ⌝ }
+    requires { ⌜ Faultless (termRead (now bytes) own) ⌝ }
+    ensures { λ r. ⌜ termRead (now (bytes .entry)) own ≡ Sound r ⌝ }
+{
+    let f = read_fields(bytes, 4 + 8 * own);
+    Term { kind: told_kind(f) }
 }

@@ -1,35 +1,34 @@
-use borrow.Author.Needs.{needs}
+-- `parts::term_at` meets its contract: a record of a problem that was read is not faulty, and holds its term.
+-- Assumes nothing.
 use mathlib.Core.Path.{sym, ap, _∙_}
+use mathlib.Core.List.{List}
+use Prim.Native.Nat.{ℕ}
 use denote.Ref.{now}
+use Rattle.record.specs.Terms.{termRead, Faultless}
 use Rattle.reader.proofs.Decoding.{termAs, term-as}
+use Rattle.parts.specs.Held.{TermHeld}
 use Rattle.parts.proofs.Holding.{term-within, term-held}
 use Rattle.parts.proofs.term_at.Statement.{statement}
 use Rattle.parts.proofs.term_at.Tie as tie
-use Rattle.parts.proofs.term_at.Reads as reads
-use Rattle.parts.proofs.term_at.Lts as lts
-use Rattle.record.proofs.read_term.Reads as read-term-reads
 
-read-term-requires : tie.Need-read-term-requires
-read-term-requires c κs = term-within (now (c .before .args .bytes)) (c .before .args .t) (c .before .pre)
+-- A term that is held has a record that is not faulty.
+faultless : (bytes : List ℕ) (t : ℕ) → TermHeld bytes t → Faultless (termRead bytes t)
+unfolding termAs Faultless
+faultless bytes t h e = term-held bytes t h (term-as bytes t ∙ ap (termAs t) e)
 
-enum-known-term : tie.Need-enum-known-term
-enum-known-term c = search needs
-
-enum-told : tie.Need-enum-told
-enum-told c = search needs
+held-term-requires : tie.Need-held-term-requires
+held-term-requires c κs =
+    let s = c .before in
+    let bytes = now (s .args .bytes) in
+    (term-within bytes (s .args .t) (s .pre), faultless bytes (s .args .t) (s .pre))
 
 returns : tie.Need-returns
 unfolding termAs
 returns c =
-    let a = c .before .before .before .before .before .args in
-    sym (term-as (now (a .bytes)) (a .t) ∙ ap (termAs (a .t)) (sym (c .before .before .before .read-term .ensures) ∙ c .before .term .given .1))
-
-returns-2 : tie.Need-returns-2
-unfolding termAs
-returns-2 c =
-    let s = c .before .before .before .before in
-    let a = s .args in
-    absurd (term-held (now (a .bytes)) (a .t) (s .pre) (term-as (now (a .bytes)) (a .t) ∙ ap (termAs (a .t)) (sym (c .before .before .read-term .ensures) ∙ c .enum-told .given .1)))
+    let s = c .before .before in
+    let bytes = now (s .args .bytes) in
+    let t = s .args .t in
+    sym (term-as bytes t ∙ ap (termAs t) (c .held-term .ensures))
 
 pub term-at-spec : {M : Type 1} → statement M
-term-at-spec = tie.close (tie.spec read-term-requires enum-known-term enum-told returns returns-2)
+term-at-spec = tie.close (tie.spec held-term-requires returns)

@@ -88,7 +88,8 @@ fn blank_row(t: usize, nums: &mut [i32], dens: &mut [i32])
     ensures { λ r. ⌜ Blank t (now (nums .exit)) (now (dens .exit)) ⌝ }
 {
     let from = COLUMNS * t;
-    fill::fill(nums, from, from + COLUMNS, 0);
+    fill::fill(nums, from, from + TERMS, 0);
+    nums[from + CONSTANT] = 0;
     fill::fill(dens, from, from + COLUMNS, 1);
 }
 

@@ -1,5 +1,5 @@
--- How a fill begins and goes on, and that its contract leaves one list.
--- Main results: `filling-starts`, `filling-goes-on`, `fill-unique`. Assume nothing.
+-- How a fill begins and goes on, that two fills are one, and that its contract leaves one list.
+-- Main results: `filling-starts`, `filling-goes-on`, `fills-join`, `fill-unique`. Assume nothing.
 use mathlib.Core.Path.{_≡_, refl, sym, ap, _∙_}
 use mathlib.Core.Logic.{_⊎_, inl, inr, _≢_}
 use mathlib.Core.List.{List}
@@ -34,6 +34,27 @@ filling-goes-on from k x before list low high filled =
     wider : (l : ℕ) → (l < from) ⊎ (k + 1 ≤ l) → (l < from) ⊎ (k ≤ l)
     wider l (inl h) = inl h
     wider l (inr h) = inr (omega arith)
+
+-- A fill, and one from where it ended, are one fill.
+pub fills-join : (from middle end : ℕ) {x : ℤ} {before between after : List ℤ} → from ≤ middle → middle ≤ end → Filled from middle x before between → Filled middle end x between after → Filled from end x before after
+fills-join from middle end {x} {before} {between} {after} low high first second =
+    record {
+      same-length = second .same-length ∙ first .same-length;
+      inside = λ k k-low k-high. by k k-low k-high (decLt k middle);
+      outside = λ k h. second .outside k (left-of k h) ∙ first .outside k (right-of k h);
+    }
+  where
+    by : (k : ℕ) → from ≤ k → k < end → Dec (k < middle) → getD after k (pos 0) ≡ x
+    by k k-low k-high (yes early) = second .outside k (inl early) ∙ first .inside k k-low early
+    by k k-low k-high (no late) = second .inside k (omega arith) k-high
+
+    left-of : (k : ℕ) → (k < from) ⊎ (end ≤ k) → (k < middle) ⊎ (end ≤ k)
+    left-of k (inl h) = inl (omega arith)
+    left-of k (inr h) = inr h
+
+    right-of : (k : ℕ) → (k < from) ⊎ (end ≤ k) → (k < from) ⊎ (middle ≤ k)
+    right-of k (inl h) = inl h
+    right-of k (inr h) = inr (omega arith)
 
 -- No second list is filled so.
 pub fill-unique : (from end : ℕ) (x : ℤ) (before list list′ : List ℤ) → Filled from end x before list → Filled from end x before list′ → list ≡ list′

@@ -2,14 +2,29 @@
 use answer::Answer;
 use problem::COLUMNS;
 use problem::PLACES;
+use problem::TERMS;
 ghost use mathlib.Core.Path.{_≡_};
 ghost use Prim.Native.Nat.{_*_, _<_, _≤_};
 ghost use lib.ListN.{length};
+ghost use lib.IntN.{pos};
+ghost use Rattle.fill.specs.Filled.{Filled};
 ghost use Rattle.problem.specs.Problem.{Pair};
 ghost use Rattle.run.specs.Run.{judged};
 ghost use Rattle.outcome.specs.Outcome.{finished, cutShort, after};
 ghost use Rattle.table.specs.Held.{tableAt, SoundTo};
 ghost use Rattle.finish.specs.Leaves.{leaves};
+
+// The denominators of rows n to 63 become 1. A fill of one row has a length that the compiler knows, and unrolls.
+fn ones_from(dens: &mut [i32], n: usize)
+    requires { ⌜ (n ≤ 64) × (4160 ≤ length (now dens)) ⌝ }
+    ensures { λ r. ⌜ Filled (65 * n) 4160 (pos 1) (now (dens .entry)) (now (dens .exit)) ⌝ }
+{
+    let mut t = n;
+    while t < TERMS {
+        fill::fill(dens, COLUMNS * t, COLUMNS * t + COLUMNS, 1);
+        t += 1;
+    }
+}
 
 // A run that went through: the rows stay, rows n to 63 become 0/1, and the goal's rows are compared.
 pub fn with_rows(
@@ -27,7 +42,7 @@ pub fn with_rows(
 {
     let same = same::same_row(nums, dens, n, left, right, bits::ALL);
     fill::fill(nums, COLUMNS * n, PLACES, 0);
-    fill::fill(dens, COLUMNS * n, PLACES, 1);
+    ones_from(dens, n);
     if same {
         return Answer::Entailed { solved: solved };
     }

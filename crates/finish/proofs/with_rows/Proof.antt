@@ -15,11 +15,8 @@ mul-fill c = search needs
 fill-requires : tie.Need-fill-requires
 fill-requires c κs = search needs
 
-mul-fill-2 : tie.Need-mul-fill-2
-mul-fill-2 c = search needs
-
-fill-requires-2 : tie.Need-fill-requires-2
-fill-requires-2 c κs = search needs
+ones-from-requires : tie.Need-ones-from-requires
+ones-from-requires c κs = search needs
 
 same-length : tie.Need-same-length
 same-length c = search needs
@@ -32,7 +29,7 @@ unfolding judged
 returns c =
     let start = c .before .before .before .before .before .before .before .before .before .before in
     let test = c .before .before .before .before .before .before .before .same-row in
-    rw (← (test .ensures), c .if1 .taken) (rows-left _ _ _ (start .pre .1 .1) (start .pre .0 .0) (c .before .before .before .before .before .fill .ensures) (c .before .before .fill2 .ensures) _)
+    rw (← (test .ensures), c .if1 .taken) (rows-left _ _ _ (start .pre .1 .1) (start .pre .0 .0) (c .before .before .before .before .before .fill .ensures) (c .before .before .ones-from .ensures) _)
 
 same-length-3 : tie.Need-same-length-3
 same-length-3 c = search needs
@@ -45,7 +42,7 @@ unfolding judged
 returns-2 c =
     let start = c .before .before .before .before .before .before .before .before .before .before in
     let test = c .before .before .before .before .before .before .before .same-row in
-    rw (← (test .ensures), c .if1 .left) (rows-left _ _ _ (start .pre .1 .1) (start .pre .0 .0) (c .before .before .before .before .before .fill .ensures) (c .before .before .fill2 .ensures) _)
+    rw (← (test .ensures), c .if1 .left) (rows-left _ _ _ (start .pre .1 .1) (start .pre .0 .0) (c .before .before .before .before .before .fill .ensures) (c .before .before .ones-from .ensures) _)
 
 pub with-rows-spec : {M : Type 1} → statement M
 with-rows-spec =
@@ -54,8 +51,7 @@ with-rows-spec =
     same-row-requires
     mul-fill
     fill-requires
-    mul-fill-2
-    fill-requires-2
+    ones-from-requires
     same-length
     same-length-2
     returns

@@ -19,6 +19,7 @@ use Rattle.problem.proofs.Holding.{sides-made, pairs-count, pair-there}
 use Rattle.run.specs.Run.{byNumber, assume}
 use Rattle.table.specs.Held.{tableAt, SoundTo}
 use Rattle.table.specs.Loop.{Kept}
+use Rattle.table.specs.Sparse.{Sparse}
 use Rattle.table.proofs.Columns.{kept-itself, kept-then}
 use Rattle.due.specs.Found.{Lookups, Awake}
 use Rattle.close.specs.Ready.{Ready}
@@ -41,15 +42,15 @@ pub record Assuming (bytes : List ℕ) (n m solved : ℕ) (heads inputs : List �
   pub awake : (problem : Problem) → decoded bytes ≡ made problem → Awake (problem .terms) n (tableAt n nums dens) sets
 
 -- The loop is over: the answer is the rule's, and what has changed is as in the loop.
-abbrev pub AllAssumed : (bytes : List ℕ) (n solved : ℕ) (nums₀ dens₀ : List ℤ) (answer : Ran) (nums dens : List ℤ) → Type 0
-AllAssumed bytes n solved nums₀ dens₀ answer nums dens =
+abbrev pub AllAssumed : (bytes : List ℕ) (n solved : ℕ) (nums₀ dens₀ : List ℤ) (answer : Ran) (nums dens : List ℤ) (sets : List ℕ) → Type 0
+AllAssumed bytes n solved nums₀ dens₀ answer nums dens sets =
     ((problem : Problem) → decoded bytes ≡ made problem → assume byNumber (problem .terms) 1 (problem .pairs) (stateAt n nums₀ dens₀ solved) ≡ ran answer (tableAt n nums dens))
-    × (Kept 0 (65 * n) nums₀ dens₀ nums dens × SoundTo (65 * n) nums dens)
+    × (Kept 0 (65 * n) nums₀ dens₀ nums dens × (SoundTo (65 * n) nums dens × WhileGoing (Sparse n nums sets) answer))
 
 -- What assumption k leaves, by its answer: the loop goes on to the next or is over.
 pub record Turned (bytes : List ℕ) (n m solved : ℕ) (heads inputs : List ℕ) (nums₀ dens₀ : List ℤ) (next : ℕ) (nums dens : List ℤ) (sets : List ℕ) (answer : Ran) : Type 0 where
   pub on : (more : ℕ) → answer ≡ Going more → Assuming bytes n m solved heads inputs nums₀ dens₀ more next nums dens sets
-  pub stops : (end : Answer) → answer ≡ Ended end → AllAssumed bytes n solved nums₀ dens₀ (Ended end) nums dens
+  pub stops : (end : Answer) → answer ≡ Ended end → AllAssumed bytes n solved nums₀ dens₀ (Ended end) nums dens sets
 
 pub assuming-starts : (bytes : List ℕ) (n m solved : ℕ) (heads inputs : List ℕ) (nums dens : List ℤ) (sets : List ℕ) → Prepared bytes n nums dens heads inputs sets → solved ≤ 65 → Assuming bytes n m solved heads inputs nums dens solved 1 nums dens sets
 assuming-starts bytes n m solved heads inputs nums dens sets prepared few =
@@ -73,13 +74,13 @@ sides-below bytes n k sides there =
 
 module _ {bytes : List ℕ} {n m solved : ℕ} {heads inputs : List ℕ} {nums₀ dens₀ : List ℤ} {count k : ℕ} {nums dens : List ℤ} {sets : List ℕ} (assuming : Assuming bytes n m solved heads inputs nums₀ dens₀ count k nums dens sets) (pairs : m ≡ field bytes 8 8) where
   -- None is left.
-  pub assuming-ends : m < k → AllAssumed bytes n solved nums₀ dens₀ (Going count) nums dens
-  unfolding assume ran
+  pub assuming-ends : m < k → AllAssumed bytes n solved nums₀ dens₀ (Going count) nums dens sets
+  unfolding assume ran WhileGoing
   assuming-ends over = (
     λ problem held.
         let none-left : drop (k - 1) (problem .pairs) ≡ [] = drop-of-length-le (problem .pairs) {i = k - 1} (omega (arith, pairs-count bytes problem held)) in
         assuming .rest problem held ∙ ap (λ ps. assume byNumber (problem .terms) k ps (stateAt n nums dens count)) none-left,
-    (assuming .kept, assuming .sound),
+    (assuming .kept, (assuming .sound, assuming .ready .sparse)),
   )
 
   module _ (some-left : k ≤ m) (terms : n ≡ field bytes 0 8) (sides : Sides) (there : made (pairOf sides) ≡ pairThere bytes n k) where
@@ -124,5 +125,5 @@ module _ {bytes : List ℕ} {n m solved : ℕ} {heads inputs : List ℕ} {nums�
                   ready = subst (WhileGoing (Ready n nums′ heads inputs sets′)) is ready;
                   awake = λ problem held. subst (WhileGoing (Awake (problem .terms) n (tableAt n nums′ dens′) sets′)) is (awake (problem .terms) (lookups problem held) (assuming .awake problem held));
                 };
-            stops = λ end is. (step (Ended end) is, (kept-then (assuming .kept) kept, sound));
+            stops = λ end is. (step (Ended end) is, (kept-then (assuming .kept) kept, (sound, tt)));
           }

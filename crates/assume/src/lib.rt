@@ -14,6 +14,7 @@ ghost use Rattle.run.specs.Run as rule;
 ghost use Rattle.run.specs.Run.{byNumber};
 ghost use Rattle.table.specs.Held.{tableAt, SoundTo};
 ghost use Rattle.table.specs.Loop.{Kept};
+ghost use Rattle.table.specs.Sparse.{Sparse};
 ghost use Rattle.due.specs.Found.{Lookups, InputsBelow, Awake};
 ghost use Rattle.close.specs.Ready.{Ready};
 ghost use Rattle.steps.specs.Ran.{ran, AtMost, WhileGoing, Prepared};
@@ -83,6 +84,7 @@ pub fn assume_all(
     ensures { λ r. ⌜ ((problem : Problem) → decoded (now (bytes .entry)) ≡ made problem → rule.assume byNumber (problem .terms) 1 (problem .pairs) (record { table = tableAt n (now (nums .entry)) (now (dens .entry)); solved = solved }) ≡ ran r (tableAt n (now (nums .exit)) (now (dens .exit)))) ⌝ }
     ensures { λ r. ⌜ Kept 0 (65 * n) (now (nums .entry)) (now (dens .entry)) (now (nums .exit)) (now (dens .exit)) ⌝ }
     ensures { λ r. ⌜ SoundTo (65 * n) (now (nums .exit)) (now (dens .exit)) ⌝ }
+    ensures { λ r. ⌜ WhileGoing (Sparse n (now (nums .exit)) (now (sets .exit))) r ⌝ }
 {
     let mut count = solved;
     let mut k: usize = 1;

@@ -20,6 +20,7 @@ ghost use Rattle.run.specs.Run as rule;
 ghost use Rattle.run.specs.Run.{byNumber};
 ghost use Rattle.table.specs.Held.{tableAt, SoundTo};
 ghost use Rattle.table.specs.Loop.{Kept};
+ghost use Rattle.table.specs.Sparse.{Sparse};
 ghost use Rattle.steps.specs.Ran.{ran, WhileGoing};
 ghost use Rattle.outcome.specs.Outcome.{decision, after};
 ghost use Rattle.finish.specs.Leaves.{leaves};
@@ -43,6 +44,7 @@ fn run_all(
     ensures { λ r. ⌜ ((problem : Problem) → decoded (now (bytes .entry)) ≡ made problem → rule.run byNumber problem ≡ ran r (tableAt n (now (nums .exit)) (now (dens .exit)))) ⌝ }
     ensures { λ r. ⌜ Kept 0 (65 * n) (now (nums .entry)) (now (dens .entry)) (now (nums .exit)) (now (dens .exit)) ⌝ }
     ensures { λ r. ⌜ WhileGoing (SoundTo (65 * n) (now (nums .exit)) (now (dens .exit))) r ⌝ }
+    ensures { λ r. ⌜ WhileGoing (Sparse n (now (nums .exit)) (now (sets .exit))) r ⌝ }
 {
     match begin::begin(bytes, n, nums, dens, heads, inputs, sets) {
         Ran::Going(solved) => assume::assume_all(
@@ -80,7 +82,15 @@ fn decide_sound(bytes: &[u8], header: Header, nums: &mut [i32], dens: &mut [i32]
         &mut inputs,
         &mut sets,
     ) {
-        Ran::Going(solved) => finish::with_rows(nums, dens, n, header.left, header.right, solved),
+        Ran::Going(solved) => finish::with_rows(
+            nums,
+            dens,
+            n,
+            header.left,
+            header.right,
+            &sets,
+            solved,
+        ),
         Ran::Ended(answer) => finish::cleared(nums, dens, answer),
     }
 }

@@ -12,6 +12,7 @@ ghost use Rattle.problem.specs.Problem.{Pair};
 ghost use Rattle.run.specs.Run.{judged};
 ghost use Rattle.outcome.specs.Outcome.{finished, cutShort, after};
 ghost use Rattle.table.specs.Held.{tableAt, SoundTo};
+ghost use Rattle.table.specs.Sparse.{Sparse};
 ghost use Rattle.finish.specs.Leaves.{leaves};
 
 // The denominators of rows n to 63 become 1. A fill of one row has a length that the compiler knows, and unrolls.
@@ -33,14 +34,18 @@ pub fn with_rows(
     n: usize,
     left: usize,
     right: usize,
+    sets: &[u64],
     solved: usize,
 ) -> Answer
     requires { ⌜ (n ≤ 64) × (left < n) × (right < n) ⌝ }
     requires { ⌜ (4160 ≤ length (now nums)) × (4160 ≤ length (now dens)) ⌝ }
     requires { ⌜ SoundTo (65 * n) (now nums) (now dens) ⌝ }
+    requires { ⌜ length (now sets) ≡ 194 ⌝ }
+    requires { ⌜ Sparse n (now nums) (now sets) ⌝ }
     ensures { λ r. ⌜ after (finished (judged (record { left = left; right = right }) (record { table = tableAt n (now (nums .entry)) (now (dens .entry)); solved = solved })) (tableAt n (now (nums .entry)) (now (dens .entry)))) (now (nums .entry)) (now (dens .entry)) ≡ leaves r (now (nums .exit)) (now (dens .exit)) ⌝ }
 {
-    let same = same::same_row(nums, dens, n, left, right, bits::ALL);
+    let columns = bits::union(sets[left], sets[right]);
+    let same = same::same_row(nums, dens, n, left, right, columns);
     fill::fill(nums, COLUMNS * n, PLACES, 0);
     ones_from(dens, n);
     if same {

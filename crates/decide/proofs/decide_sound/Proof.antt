@@ -23,12 +23,16 @@ run-all-requires c κs =
 enum-known-solved : tie.Need-enum-known-solved
 enum-known-solved c = search needs
 
+slice-aggregate-with-rows : tie.Need-slice-aggregate-with-rows
+slice-aggregate-with-rows c = search needs
+
 with-rows-requires : tie.Need-with-rows-requires
 with-rows-requires c κs =
-    let start = c .before .before .before .before .before .before .before .before .before .before .before .before .before .before .before .before .before in
+    let start = c .before .before .before .before .before .before .before .before .before .before .before .before .before .before .before .before .before .before in
     let facts = read-facts _ _ (start .pre .0) in
-    let ran-so = c .before .before .before .before .before .before .before .before .before .before .run-all .ensures in
-    ((facts .few, facts .left-below, facts .right-below), (search needs, going-holds (c .before .before .before .solved .given .1) (ran-so .1 .1)))
+    let going = c .before .before .before .before .solved .given .1 in
+    let ran-so = c .before .before .before .before .before .before .before .before .before .before .before .run-all .ensures in
+    ((facts .few, facts .left-below, facts .right-below), (search needs, (going-holds going (ran-so .1 .1 .0), (search needs, going-holds going (ran-so .1 .1 .1)))))
 
 enum-known-answer : tie.Need-enum-known-answer
 enum-known-answer c = search needs
@@ -44,10 +48,10 @@ same-length-2 c = search needs
 
 returns : tie.Need-returns
 returns c =
-    let start = c .before .before .before .before .before .before .before .before .before .before .before .before .before .before .before .before .before .before .before .before in
+    let start = c .before .before .before .before .before .before .before .before .before .before .before .before .before .before .before .before .before .before .before .before .before in
     let facts = read-facts _ _ (start .pre .0) in
-    let ran-so = c .before .before .before .before .before .before .before .before .before .before .before .before .before .run-all .ensures in
-    sound-rows _ _ facts _ _ _ _ _ _ _ _ _ (ran-so .0 (facts .problem) (facts .held)) (c .before .before .before .before .before .before .solved .given .1) (ran-so .1 .0) (c .before .before .with-rows .ensures)
+    let ran-so = c .before .before .before .before .before .before .before .before .before .before .before .before .before .before .run-all .ensures in
+    sound-rows _ _ facts _ _ _ _ _ _ _ _ _ (ran-so .0 (facts .problem) (facts .held)) (c .before .before .before .before .before .before .before .solved .given .1) (ran-so .1 .0) (c .before .before .with-rows .ensures)
 
 same-length-3 : tie.Need-same-length-3
 same-length-3 c = search needs
@@ -71,6 +75,7 @@ decide-sound-spec =
     slice-aggregate-run-all-3
     run-all-requires
     enum-known-solved
+    slice-aggregate-with-rows
     with-rows-requires
     enum-known-answer
     cleared-requires

@@ -45,7 +45,7 @@ returns c =
     let told = c .before .before .before .before .before .before .before .before .before .before .before .solved .given .1 in
     let begun = c .before .before .before .before .before .before .before .before .before .before .before .before .before .before .before .before .before .before .before .before .before .begin .ensures in
     let assumed = c .before .before .before .before .assume-all .ensures in
-    (λ problem held. run-goes-on problem _ _ _ _ _ (begun .0 problem held) told (assumed .0 problem held), (kept-then (begun .1 .0) (assumed .1 .0), while-going _ (assumed .1 .1)))
+    (λ problem held. run-goes-on problem _ _ _ _ _ (begun .0 problem held) told (assumed .0 problem held), (kept-then (begun .1 .0) (assumed .1 .0), (while-going _ (assumed .1 .1 .0), assumed .1 .1 .1)))
 
 same-length-6 : tie.Need-same-length-6
 same-length-6 c = search needs
@@ -66,7 +66,7 @@ returns-2 : tie.Need-returns-2
 returns-2 c =
     let told = c .before .answer .given .1 in
     let begun = c .before .before .before .before .before .before .before .before .before .before .before .begin .ensures in
-    (λ problem held. run-ends problem _ _ _ (begun .0 problem held) told, (begun .1 .0, ended-holds _ _))
+    (λ problem held. run-ends problem _ _ _ (begun .0 problem held) told, (begun .1 .0, (ended-holds _ _, ended-holds _ _)))
 
 pub run-all-spec : {M : Type 1} → statement M
 run-all-spec =

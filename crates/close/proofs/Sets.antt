@@ -141,7 +141,7 @@ woken-watched {terms} {n} {table} {heads} {inputs} {sets₀} {sets} waiting₀ w
     noted : (i j : ℕ) → i < j → j < n → isDue terms table i j ≡ true → holds (openOf sets₀) i ≡ true → holds (openOf sets₀) j ≡ true → (holds (pendingOf sets₀) i || holds (pendingOf sets₀) j) ≡ true → Waits waiting i j
     noted i j before below is left right stirred =
         let one = due-heads terms n heads inputs lookups table i j (omega arith) below is in
-        woken .adds i j below right (ap₂ _&&_ (ap₂ _&&_ (linked .earlier i j before below (one .0) (one .1)) left) stirred)
+        woken .adds i j before below right (ap₂ _&&_ (ap₂ _&&_ (linked .earlier i j before below (one .0) (one .1)) left) stirred)
 
     by : (i j : ℕ) → i < j → j < n → isDue terms table i j ≡ true → holds (openOf sets₀) i ≡ true → holds (openOf sets₀) j ≡ true → Looked waiting₀ sets₀ i j → Waits waiting i j
     by i j before below is left right (inl waits) = woken .grown .keeps i j (omega arith) waits

@@ -1,7 +1,7 @@
 -- Pairs noted right side by right side.
--- Main results: `grown-itself`, `grown-then`, `right-noted`, `Waking`, `waking-skips`, `woken-ends`, `woken-idle`. Assume nothing.
+-- Main results: `grown-itself`, `grown-then`, `right-noted`, `Waking`, `waking-starts`, `waking-skips`, `waking-more`, `woken-ends`, `woken-idle`. Assume nothing.
 use mathlib.Core.Path.{_≡_, refl, sym, ap, ap₂, _∙_}
-use mathlib.Core.Bool.{true, false, _&&_, _||_, false≢true, and-false, or-true}
+use mathlib.Core.Bool.{Bool, true, false, _&&_, _||_, false≢true, and-eq-true-iff, and-false, or-true}
 use mathlib.Core.List.{List}
 use Prim.Native.Nat.{ℕ, _+_, _≤_, _<_}
 use native.Mathlib.Decide.{ℕ-discrete, decLt}
@@ -50,23 +50,35 @@ module _ (waiting : List ℕ) (j lefts rights woken : ℕ) (place : j < 64) (lon
 -- The open right sides below j are noted.
 pub record Waking (sets waiting₀ : List ℕ) (j : ℕ) (waiting : List ℕ) : Type 0 where
   pub grown : Grown waiting₀ waiting
-  pub adds : (i k : ℕ) → k < j → k < 64 → holds (openOf sets) k ≡ true → isWoken sets i k ≡ true → Waits waiting i k
+  pub adds : (i k : ℕ) → i < k → k < j → k < 64 → holds (openOf sets) k ≡ true → isWoken sets i k ≡ true → Waits waiting i k
+
+-- No right side is before the first open lookup that is pending.
+pub waking-starts : {sets : List ℕ} (waiting : List ℕ) (both : ℕ) {first : ℕ} → ((k : ℕ) → holds both k ≡ (holds (pendingOf sets) k && holds (openOf sets) k)) → Next both 0 first → Waking sets waiting first waiting
+waking-starts {sets} waiting both {first} told next =
+    record { grown = grown-itself waiting; adds = λ i k before low small inside is. let parts = and-eq-true-iff (holds (earlierOf sets k) i && holds (openOf sets) i) _ .0 is in absurd (by i k before low inside (and-eq-true-iff (holds (earlierOf sets k) i) (holds (openOf sets) i) .0 (parts .0) .1) (holds (pendingOf sets) i) refl (parts .1)) }
+  where
+    none : (k : ℕ) → k < first → holds (pendingOf sets) k ≡ true → holds (openOf sets) k ≡ true → ⊥
+    none k low pending inside = false≢true (sym (next .none-between k (omega arith) low) ∙ told k ∙ ap₂ _&&_ pending inside)
+
+    by : (i k : ℕ) → i < k → k < first → holds (openOf sets) k ≡ true → holds (openOf sets) i ≡ true → (b : Bool) → holds (pendingOf sets) i ≡ b → (holds (pendingOf sets) i || holds (pendingOf sets) k) ≡ true → ⊥
+    by i k before low right left true pending either = none i (omega arith) pending left
+    by i k before low right left false asleep either = none k low (ap (λ b. b || holds (pendingOf sets) k) (sym asleep) ∙ either) right
 
 -- Right sides that are not open need no turn.
 pub waking-skips : {sets waiting₀ waiting : List ℕ} {from on : ℕ} → Next (openOf sets) from on → Waking sets waiting₀ from waiting → Waking sets waiting₀ on waiting
-waking-skips {sets} {waiting₀} {waiting} {from} {on} next waking = record { grown = waking .grown; adds = λ i k low small inside. by i k low small inside (decLt k from) }
+waking-skips {sets} {waiting₀} {waiting} {from} {on} next waking = record { grown = waking .grown; adds = λ i k before low small inside. by i k before low small inside (decLt k from) }
   where
-    by : (i k : ℕ) → k < on → k < 64 → holds (openOf sets) k ≡ true → Dec (k < from) → isWoken sets i k ≡ true → Waits waiting i k
-    by i k low small inside (yes before) = waking .adds i k before small inside
-    by i k low small inside (no after) = absurd (false≢true (sym (next .none-between k (omega arith) low) ∙ inside))
+    by : (i k : ℕ) → i < k → k < on → k < 64 → holds (openOf sets) k ≡ true → Dec (k < from) → isWoken sets i k ≡ true → Waits waiting i k
+    by i k before low small inside (yes passed) = waking .adds i k before passed small inside
+    by i k before low small inside (no after) = absurd (false≢true (sym (next .none-between k (omega arith) low) ∙ inside))
 
 pub waking-more : {sets waiting₀ waiting waiting′ : List ℕ} (j : ℕ) → Grown waiting waiting′ → ((i : ℕ) → isWoken sets i j ≡ true → Waits waiting′ i j) → Waking sets waiting₀ j waiting → Waking sets waiting₀ (j + 1) waiting′
 waking-more {sets} {waiting₀} {waiting} {waiting′} j grown here waking =
-    record { grown = grown-then (waking .grown) grown; adds = λ i k low small inside. by i k low small inside (ℕ-discrete k j) }
+    record { grown = grown-then (waking .grown) grown; adds = λ i k before low small inside. by i k before low small inside (ℕ-discrete k j) }
   where
-    by : (i k : ℕ) → k < j + 1 → k < 64 → holds (openOf sets) k ≡ true → Dec (k ≡ j) → isWoken sets i k ≡ true → Waits waiting′ i k
-    by i k low small inside (yes now) is = rw now (here i (ap (isWoken sets i) (sym now) ∙ is))
-    by i k low small inside (no other) is = grown .keeps i k small (waking .adds i k (omega arith) small inside is)
+    by : (i k : ℕ) → i < k → k < j + 1 → k < 64 → holds (openOf sets) k ≡ true → Dec (k ≡ j) → isWoken sets i k ≡ true → Waits waiting′ i k
+    by i k before low small inside (yes now) is = rw now (here i (ap (isWoken sets i) (sym now) ∙ is))
+    by i k before low small inside (no other) is = grown .keeps i k small (waking .adds i k before (omega arith) small inside is)
 
 -- All are noted, and none is pending any more.
 pub woken-ends : {sets waiting₀ waiting : List ℕ} (n : ℕ) {end : ℕ} → n ≤ end → n ≤ 64 → 192 < length sets → Waking sets waiting₀ end waiting → Woken n sets (set sets 192 0) waiting₀ waiting
@@ -77,13 +89,13 @@ woken-ends {sets} n all few place waking =
       asleep = getD-set-same sets 192 0 0 place;
       others = λ k apart. getD-set-other sets 192 k 0 0 apart;
       grown = waking .grown;
-      adds = λ i j low. waking .adds i j (omega arith) (omega arith);
+      adds = λ i j before low. waking .adds i j before (omega arith) (omega arith);
     }
 
 -- None was pending.
 pub woken-idle : (n : ℕ) {sets : List ℕ} (waiting : List ℕ) → pendingOf sets ≡ 0 → Woken n sets sets waiting waiting
 woken-idle n {sets} waiting asleep =
-    record { same-length = refl; asleep = asleep; others = λ k apart. refl; grown = grown-itself waiting; adds = λ i j low inside is. absurd (false≢true (sym (never i j) ∙ is)) }
+    record { same-length = refl; asleep = asleep; others = λ k apart. refl; grown = grown-itself waiting; adds = λ i j before low inside is. absurd (false≢true (sym (never i j) ∙ is)) }
   where
     none : (k : ℕ) → holds (pendingOf sets) k ≡ false
     none k = ap (λ s. holds s k) asleep ∙ holds-none k

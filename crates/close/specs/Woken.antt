@@ -26,4 +26,4 @@ pub record Woken (n : ℕ) (sets₀ sets waiting₀ waiting : List ℕ) : Type 0
   pub asleep : pendingOf sets ≡ 0
   pub others : (k : ℕ) → k ≢ 192 → getD sets k 0 ≡ getD sets₀ k 0
   pub grown : Grown waiting₀ waiting
-  pub adds : (i j : ℕ) → j < n → holds (openOf sets₀) j ≡ true → isWoken sets₀ i j ≡ true → Waits waiting i j
+  pub adds : (i j : ℕ) → i < j → j < n → holds (openOf sets₀) j ≡ true → isWoken sets₀ i j ≡ true → Waits waiting i j

@@ -1,5 +1,5 @@
 -- One column of a row to build, and terms whose fraction is brought to lowest terms.
--- Main results: `cell-stands`, `one-stands`, `unknown-column`, `lowered-constant`, `lowered-gain`, `lowered-other`. Assume nothing.
+-- Main results: `cell-stands`, `one-stands`, `lowered-constant`, `lowered-gain`, `lowered-other`. Assume nothing.
 use mathlib.Core.Path.{_≡_, refl, sym, ap, _∙_, subst}
 use mathlib.Core.List.{List, [], _∷_}
 use Prim.Native.Nat.{ℕ, _+_, _*_, _<_}
@@ -16,7 +16,7 @@ use Rattle.arithmetic.proofs.Linked.{stands}
 use Rattle.problem.specs.declared.Kind.{Kind}
 use Rattle.problem.specs.declared.Kind.the-variants.{Variable, Constant, Gain, Sum, Difference, Lookup1, Lookup2, Lookup3}
 use Rattle.problem.proofs.Kind.{the-type}
-use Rattle.run.specs.Row.{Table, COLUMNS, TERMS, constant, column, cell}
+use Rattle.run.specs.Row.{COLUMNS, TERMS, constant, column, cell}
 use Rattle.run.specs.Build.{alone, builtColumn}
 use Rattle.table.specs.Held.{heldAt, tableAt, SoundTo}
 use Rattle.table.proofs.Columns.{column-held, row-held}
@@ -36,18 +36,6 @@ cell-stands nums dens t input c {f} sound before below held =
 pub one-stands : Stands (record { num = pos 1; den = pos 1 }) oneℚ
 unfolding oneℚ whole limit
 one-stands = stands oneℚ refl refl (omega arith) (omega arith)
-
--- An unknown's row is 1 at itself.
-pub unknown-column : (table : Table) (own : ℕ) (kind : Kind) (c : ℕ) → OneOf (0 ∷ 5 ∷ 6 ∷ 7 ∷ []) (tagOf the-type kind) → builtColumn table own kind c ≡ made (alone own oneℚ c)
-unfolding builtColumn
-unknown-column table own (Variable symbol) c tag = refl
-unknown-column table own (Constant held) c tag = absurd (miss (0 ∷ 5 ∷ 6 ∷ 7 ∷ []) 1 tt tag)
-unknown-column table own (Gain factor input) c tag = absurd (miss (0 ∷ 5 ∷ 6 ∷ 7 ∷ []) 2 tt tag)
-unknown-column table own (Sum left right) c tag = absurd (miss (0 ∷ 5 ∷ 6 ∷ 7 ∷ []) 3 tt tag)
-unknown-column table own (Difference left right) c tag = absurd (miss (0 ∷ 5 ∷ 6 ∷ 7 ∷ []) 4 tt tag)
-unknown-column table own (Lookup1 symbol input) c tag = refl
-unknown-column table own (Lookup2 symbol first second) c tag = refl
-unknown-column table own (Lookup3 symbol first second third) c tag = refl
 
 -- The same constant or gain, with its fraction in lowest terms.
 pub lowered-constant : {kind : Kind} {f g : Fraction} → kind ≡ Constant f → Stands g (value f) → Lowered kind (Constant g)

@@ -1,3 +1,4 @@
+pub mod Alone
 pub mod Building
 pub mod Columns
 pub mod Sparse

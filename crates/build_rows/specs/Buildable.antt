@@ -1,5 +1,5 @@
 -- What a term must be for its row to be built.
--- Main definitions: `Written`, `Holding`, `Below`, `Buildable`. Assumes nothing.
+-- Main definitions: `Written`, `Holding`, `Below`, `Buildable`, `Combined`. Assumes nothing.
 use Prim.Native.Nat.{ℕ, _≤_, _<_}
 use lib.IntN.{natAbs}
 use Rattle.fraction.specs.declared.Fraction.{Fraction}
@@ -38,3 +38,14 @@ Below own (Lookup3 symbol first second third) = (first < own) × (second < own) 
 pub record Buildable (P : Fraction → Type 0) (own : ℕ) (kind : Kind) : Type 0 where
   pub inputs : Below own kind
   pub fraction : Holding P kind
+
+-- a row that is made of earlier ones: a gain's, a sum's or a difference's
+unfoldable pub Combined : Kind → Type 0
+Combined (Variable symbol) = ⊥
+Combined (Constant value) = ⊥
+Combined (Gain factor input) = Unit {0}
+Combined (Sum left right) = Unit {0}
+Combined (Difference left right) = Unit {0}
+Combined (Lookup1 symbol input) = ⊥
+Combined (Lookup2 symbol first second) = ⊥
+Combined (Lookup3 symbol first second third) = ⊥

@@ -7,34 +7,24 @@ use problem::TERMS;
 use problem::Term;
 use table::Step;
 ghost use mathlib.Core.Path.{_≡_};
+ghost use mathlib.Core.Bool.{true};
 ghost use Prim.Native.Nat.{ℕ, _+_, _*_, _<_, _≤_};
 ghost use lib.ListN.{length, getD};
 ghost use Rattle.bits.specs.Sets.{holds};
-ghost use Rattle.fraction.specs.Exact.{value};
-ghost use Rattle.arithmetic.specs.Values.{Good, Stands, Answers};
+ghost use Rattle.fraction.specs.Exact.{value, oneℚ};
+ghost use Rattle.fraction.specs.Made.{made};
+ghost use Rattle.arithmetic.specs.Values.{Good, Answers};
 ghost use Rattle.run.specs.Build.{alone, builtColumn};
 ghost use Rattle.table.specs.Held.{heldAt, tableAt, SoundTo};
-ghost use Rattle.table.specs.Loop.{Kept};
+ghost use Rattle.table.specs.Loop.{Kept, RowMade};
 ghost use Rattle.table.specs.Sparse.{Within, Sparse};
-ghost use Rattle.build_rows.specs.Buildable.{Written, Holding, Below, Buildable};
+ghost use Rattle.build_rows.specs.Buildable.{Written, Holding, Below, Buildable, Combined};
 ghost use Rattle.build_rows.specs.Built.{RowBuilt};
 ghost use Rattle.build_rows.specs.Lowered.{Lowered};
 ghost use Rattle.build_rows.specs.Sparse.{mayHold, Covered, Blank};
 
 // The column of the constant stands behind those of the terms.
 const CONSTANT: usize = TERMS;
-
-// f in column `only`, 0 elsewhere.
-fn alone(only: usize, f: Fraction, c: usize) -> Fraction
-    requires { ⌜ Good f ⌝ }
-    ensures { λ r. ⌜ Stands r (alone only (value f) c) ⌝ }
-{
-    if c == only {
-        f
-    } else {
-        Fraction { num: 0, den: 1 }
-    }
-}
 
 // Column c of row t.
 fn cell(nums: &[i32], dens: &[i32], t: usize, c: usize) -> Fraction
@@ -44,15 +34,14 @@ fn cell(nums: &[i32], dens: &[i32], t: usize, c: usize) -> Fraction
     table::get(nums, dens, COLUMNS * t + c)
 }
 
-// Column c of the row of term t, whose fraction is in lowest terms.
+// Column c of the row of a gain, a sum or a difference, whose fraction is in lowest terms.
 fn built_column(kind: Kind, t: usize, c: usize, nums: &[i32], dens: &[i32]) -> Made
     requires { ⌜ (t < 64) × (c < 65) × (4160 ≤ length (now nums)) × (4160 ≤ length (now dens)) ⌝ }
     requires { ⌜ SoundTo (65 * t) (now nums) (now dens) ⌝ }
-    requires { ⌜ Buildable Good t kind ⌝ }
+    requires { ⌜ Buildable Good t kind × Combined kind ⌝ }
     ensures { λ r. ⌜ Answers r (builtColumn (tableAt t (now (nums .entry)) (now (dens .entry))) t kind c) ⌝ }
 {
     match kind {
-        Kind::Constant { value } => Made::Fits(alone(CONSTANT, value, c)),
         Kind::Gain { factor, input } => products::product(factor, cell(nums, dens, input, c)),
         Kind::Sum { left, right } => {
             sums::sum(cell(nums, dens, left, c), cell(nums, dens, right, c))
@@ -60,7 +49,7 @@ fn built_column(kind: Kind, t: usize, c: usize, nums: &[i32], dens: &[i32]) -> M
         Kind::Difference { left, right } => {
             sums::difference(cell(nums, dens, left, c), cell(nums, dens, right, c))
         }
-        _ => Made::Fits(alone(t, Fraction { num: 1, den: 1 }, c)),
+        _ => Made::Fits(Fraction { num: 0, den: 1 }),
     }
 }
 
@@ -108,12 +97,36 @@ fn columns_of(kind: Kind, t: usize, sets: &[u64]) -> u64
     }
 }
 
-// The row of term t, from column to column of the set and last the constant's, until one is refused. The row is blank, and the rule
-// makes 0 outside the set.
+// f in column `only` of row t, which is blank.
+fn alone_row(t: usize, only: usize, f: Fraction, nums: &mut [i32], dens: &mut [i32]) -> Step
+    requires { ⌜ (t < 64) × (only < 65) × (4160 ≤ length (now nums)) × (4160 ≤ length (now dens)) ⌝ }
+    requires { ⌜ SoundTo (65 * t) (now nums) (now dens) ⌝ }
+    requires { ⌜ Good f ⌝ }
+    requires { ⌜ Blank t (now nums) (now dens) ⌝ }
+    ensures { λ r. ⌜ RowMade (λ c. made (alone only (value f) c)) (65 * t) (65 * (t + 1)) r (now (nums .entry)) (now (dens .entry)) (now (nums .exit)) (now (dens .exit)) ⌝ }
+    ensures { λ r. ⌜ ((set : ℕ) → (only < 64 → holds set only ≡ true) → Within set (65 * t) (now (nums .exit))) ⌝ }
+{
+    table::put(nums, dens, COLUMNS * t + only, f);
+    Step::Done
+}
+
+// 01, The run, 1: "An unknown's row is 1 at itself".
+fn unknown_row(t: usize, nums: &mut [i32], dens: &mut [i32]) -> Step
+    requires { ⌜ (t < 64) × (4160 ≤ length (now nums)) × (4160 ≤ length (now dens)) ⌝ }
+    requires { ⌜ SoundTo (65 * t) (now nums) (now dens) ⌝ }
+    requires { ⌜ Blank t (now nums) (now dens) ⌝ }
+    ensures { λ r. ⌜ RowMade (λ c. made (alone t oneℚ c)) (65 * t) (65 * (t + 1)) r (now (nums .entry)) (now (dens .entry)) (now (nums .exit)) (now (dens .exit)) ⌝ }
+    ensures { λ r. ⌜ ((set : ℕ) → holds set t ≡ true → Within set (65 * t) (now (nums .exit))) ⌝ }
+{
+    alone_row(t, t, Fraction { num: 1, den: 1 }, nums, dens)
+}
+
+// The row of a gain, a sum or a difference, from column to column of the set and last the constant's, until one is refused. The row is
+// blank, and the rule makes 0 outside the set.
 fn built_row(kind: Kind, t: usize, columns: u64, nums: &mut [i32], dens: &mut [i32]) -> Step
     requires { ⌜ (t < 64) × (4160 ≤ length (now nums)) × (4160 ≤ length (now dens)) ⌝ }
     requires { ⌜ SoundTo (65 * t) (now nums) (now dens) ⌝ }
-    requires { ⌜ Buildable Good t kind ⌝ }
+    requires { ⌜ Buildable Good t kind × Combined kind ⌝ }
     requires { ⌜ Blank t (now nums) (now dens) ⌝ }
     requires { ⌜ Covered columns (builtColumn (tableAt t (now nums) (now dens)) t kind) ⌝ }
     ensures { λ r. ⌜ RowBuilt kind t r (now (nums .entry)) (now (dens .entry)) (now (nums .exit)) (now (dens .exit)) ⌝ }
@@ -131,6 +144,35 @@ fn built_row(kind: Kind, t: usize, columns: u64, nums: &mut [i32], dens: &mut [i
         }
     }
     Step::Done
+}
+
+// The row of term t, which is blank, and for which the rule makes 0 outside the set.
+fn term_row(kind: Kind, t: usize, columns: u64, nums: &mut [i32], dens: &mut [i32]) -> Step
+    requires { ⌜ (t < 64) × (4160 ≤ length (now nums)) × (4160 ≤ length (now dens)) ⌝ }
+    requires { ⌜ SoundTo (65 * t) (now nums) (now dens) ⌝ }
+    requires { ⌜ Buildable Good t kind ⌝ }
+    requires { ⌜ Blank t (now nums) (now dens) ⌝ }
+    requires { ⌜ Covered columns (builtColumn (tableAt t (now nums) (now dens)) t kind) ⌝ }
+    ensures { λ r. ⌜ RowBuilt kind t r (now (nums .entry)) (now (dens .entry)) (now (nums .exit)) (now (dens .exit)) ⌝ }
+    ensures { λ r. ⌜ Within columns (65 * t) (now (nums .exit)) ⌝ }
+{
+    match kind {
+        Kind::Variable { symbol } => unknown_row(t, nums, dens),
+        Kind::Constant { value } => alone_row(t, CONSTANT, value, nums, dens),
+        Kind::Lookup1 { symbol, input } => unknown_row(t, nums, dens),
+        Kind::Lookup2 {
+            symbol,
+            first,
+            second,
+        } => unknown_row(t, nums, dens),
+        Kind::Lookup3 {
+            symbol,
+            first,
+            second,
+            third,
+        } => unknown_row(t, nums, dens),
+        _ => built_row(kind, t, columns, nums, dens),
+    }
 }
 
 // Row t, built from the rows before it, and noted which columns it may have. Nothing is asked of what its places hold at entry.
@@ -154,7 +196,7 @@ pub fn build_term(
     let kind = lowered(written);
     let columns = columns_of(kind, t, sets);
     blank_row(t, nums, dens);
-    let step = built_row(kind, t, columns, nums, dens);
+    let step = term_row(kind, t, columns, nums, dens);
     sets[t] = columns;
     step
 }

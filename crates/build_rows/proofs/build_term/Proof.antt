@@ -27,8 +27,8 @@ columns-of-requires c κs =
 blank-row-requires : tie.Need-blank-row-requires
 blank-row-requires c κs = search needs
 
-built-row-requires : tie.Need-built-row-requires
-built-row-requires c κs =
+term-row-requires : tie.Need-term-row-requires
+term-row-requires c κs =
     let blank = c .before .before .before .before in
     let told = blank .before .before .before in
     let lowered = told .before .before in
@@ -65,10 +65,10 @@ returns c =
     let lowered = told .before .before in
     let s = lowered .before .before in
     let t = s .args .t in
-    let built = built-after (blank .blank-row .ensures .0) (row .built-row .ensures .0) in
+    let built = built-after (blank .blank-row .ensures .0) (row .term-row .ensures .0) in
     let short = s .pre .0 .0 in
     let long = s .pre .1 .1 .1 .0 in
-    (lowered-built (lowered .lowered .ensures) built, (sparse-more t (told .columns-of .result) (omega arith) (built .kept) (s .pre .1 .1 .1 .1) (row .built-row .ensures .1), λ k other. getD-set-other (s .args .sets .now) t k (told .columns-of .result) 0 other))
+    (lowered-built (lowered .lowered .ensures) built, (sparse-more t (told .columns-of .result) (omega arith) (built .kept) (s .pre .1 .1 .1 .1) (row .term-row .ensures .1), λ k other. getD-set-other (s .args .sets .now) t k (told .columns-of .result) 0 other))
 
 pub build-term-spec : {M : Type 1} → statement M
 build-term-spec =
@@ -77,7 +77,7 @@ build-term-spec =
     lowered-requires
     columns-of-requires
     blank-row-requires
-    built-row-requires
+    term-row-requires
     mul-sets
     slice-write-sets
     same-length

@@ -27,6 +27,11 @@ fn gained(k: Fraction, form: Fraction, old: Fraction) -> Made
     requires { ⌜ Good old ⌝ }
     ensures { λ r. ⌜ Answers r (gainedBy (value k) (value form) (value old)) ⌝ }
 {
+    if k.den == 1 {
+        if k.num == 1 {
+            return sums::sum(old, form);
+        }
+    }
     match products::product(k, form) {
         Made::Fits(f) => sums::sum(old, f),
         Made::Refused(number) => Made::Refused(number),

@@ -1,5 +1,5 @@
 -- The least number of a set from one number on.
--- Main results: `none-beyond`, `none-left`, `found-onward`. Assume nothing.
+-- Main results: `none-beyond`, `none-left`, `found-onward`, `least-first`, `first-none`. Assume nothing.
 use mathlib.Core.Path.{_≡_, sym, ap, _∙_}
 use mathlib.Core.Bool.{false≢true}
 use Prim.Native.Nat.{ℕ, _+_, _-_, _/_, _^_, _<_, _≤_}
@@ -52,3 +52,23 @@ module _ (set from : ℕ) where
         none-between = λ k above below. sym (onward k above) ∙ least .none-below (k - from) (omega arith);
         inside = λ below. sym (holds-shifted set from i) ∙ least .inside;
       }
+
+-- The least number of a set is the first from 0 on.
+pub least-first : {set i : ℕ} → i < 64 → Least set i → Next set 0 i
+least-first below least =
+    record {
+      forward = omega arith;
+      most = omega arith;
+      none-between = λ k above under. least .none-below k under;
+      inside = λ low. least .inside;
+    }
+
+-- The empty set has none.
+pub first-none : Next 0 0 64
+first-none =
+    record {
+      forward = omega arith;
+      most = omega arith;
+      none-between = λ k above below. holds-none k;
+      inside = λ below. absurd (omega arith);
+    }

@@ -1,7 +1,7 @@
 -- Sets of numbers, each set as the bits of one number.
--- Main definitions: `holds`, `Least`, `Next`, `Last`. Assume nothing.
+-- Main definitions: `holds`, `Least`, `Next`, `Rest`, `Last`. Assume nothing.
 use mathlib.Core.Path.{_≡_}
-use mathlib.Core.Bool.{Bool, true, false}
+use mathlib.Core.Bool.{Bool, true, false, not, _&&_}
 use Prim.Native.Nat.{ℕ, _-_, _/_, _%_, _^_, _<_, _≤_}
 use lib.Dec.{eqb}
 
@@ -20,6 +20,10 @@ pub record Next (set from r : ℕ) : Type 0 where
   pub most : r ≤ 64
   pub none-between : (k : ℕ) → from ≤ k → k < r → holds set k ≡ false
   pub inside : r < 64 → holds set r ≡ true
+
+-- r is the set without its least number.
+pub record Rest (set r : ℕ) : Type 0 where
+  pub others : (least : ℕ) → Next set 0 least → (k : ℕ) → holds r k ≡ (not (eqb k least) && holds set k)
 
 -- r is one more than the greatest number in the set below `end`, or 0, where there is none.
 pub record Last (set end r : ℕ) : Type 0 where

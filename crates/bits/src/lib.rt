@@ -3,7 +3,7 @@ ghost use mathlib.Core.Path.{_≡_};
 ghost use mathlib.Core.Bool.{not, _&&_, _||_};
 ghost use Prim.Native.Nat.{ℕ, _<_, _≤_};
 ghost use lib.Dec.{eqb};
-ghost use Rattle.bits.specs.Sets.{holds, Least, Next, Last};
+ghost use Rattle.bits.specs.Sets.{holds, Least, Next, Rest, Last};
 
 // The set of all numbers below 64.
 pub const ALL: u64 = 18446744073709551615;
@@ -67,6 +67,26 @@ pub fn next(set: u64, from: usize) -> usize
         return 64;
     }
     from + least(rest)
+}
+
+// The least number of a set, or 64 of the empty set.
+pub fn first(set: u64) -> usize
+    ensures { λ r. ⌜ Next set 0 r ⌝ }
+{
+    if 0 < set {
+        return least(set);
+    }
+    64
+}
+
+// The set without its least number: a loop that comes to each number once needs no more, and takes less than by `next`.
+pub fn rest(set: u64) -> u64
+    ensures { λ r. ⌜ Rest set r ⌝ }
+{
+    if set == 0 {
+        return 0;
+    }
+    set & (set - 1)
 }
 
 // One more than the greatest number of a set, or 0 of the empty set.

@@ -1,5 +1,5 @@
 // The difference of two rows, in a row of its own. It goes only through the columns of a set, outside of which the rows hold 0, and
-// through the constant's, which `bits::next` comes to last.
+// through the constant's, which `bits::first` comes to last.
 use arithmetic::Made;
 use problem::COLUMNS;
 use table::Step;
@@ -32,14 +32,16 @@ pub fn difference(
     ensures { λ r. ⌜ RowMade (λ c. minus (column (rowAt (now (nums .entry)) (now (dens .entry)) left) c) (column (rowAt (now (nums .entry)) (now (dens .entry)) right) c)) 0 65 r (now («d_nums» .entry)) (now («d_dens» .entry)) (now («d_nums» .exit)) (now («d_dens» .exit)) ⌝ }
     ensures { λ r. ⌜ Within set 0 (now («d_nums» .exit)) ⌝ }
 {
+    let mut rest = set;
     let mut c: usize = 0;
     while c < COLUMNS {
-        let at = bits::next(set, c);
+        let at = bits::first(rest);
         let a = table::get(nums, dens, left + at);
         let b = table::get(nums, dens, right + at);
         match sums::difference(a, b) {
             Made::Fits(f) => {
                 table::put(d_nums, d_dens, at, f);
+                rest = bits::rest(rest);
                 c = at + 1;
             }
             Made::Refused(number) => return Step::Refused(number),

@@ -6,7 +6,9 @@ use native.Mathlib.Nat.{zero-add}
 use native.Mathlib.Omega.{arith}
 use denote.Ref.{now}
 use Rattle.fraction.specs.Limits.{minus}
+use Rattle.bits.specs.Sets.{Next}
 use Rattle.bits.proofs.Digits.{holds-none}
+use Rattle.bits.proofs.Taken.{From, from-starts, from-first, from-rest}
 use Rattle.arithmetic.specs.Values.{Good, Answers}
 use Rattle.run.specs.Row.{COLUMNS, TERMS, column}
 use Rattle.table.specs.Held.{rowAt}
@@ -21,11 +23,11 @@ use Rattle.difference.proofs.difference.Statement.{statement}
 use Rattle.difference.proofs.difference.Tie as tie
 
 abbrev Inv-loop : tie.InvT-loop
-Inv-loop nums dens left right set d-nums₀ d-dens₀ c₀ d-nums d-dens c =
-    (c ≤ 65) × Making (λ c. minus (column (rowAt nums dens left) c) (column (rowAt nums dens right) c)) 0 65 c d-nums₀ d-dens₀ d-nums d-dens × Within set 0 d-nums
+Inv-loop nums dens left right set d-nums₀ d-dens₀ rest₀ c₀ d-nums d-dens rest c =
+    (c ≤ 65) × Making (λ c. minus (column (rowAt nums dens left) c) (column (rowAt nums dens right) c)) 0 65 c d-nums₀ d-dens₀ d-nums d-dens × Within set 0 d-nums × From set c rest
 
 abbrev μ-loop : tie.MeasureT-loop
-μ-loop nums dens left right set d-nums₀ d-dens₀ c₀ d-nums d-dens c = 65 - c
+μ-loop nums dens left right set d-nums₀ d-dens₀ rest₀ c₀ d-nums d-dens rest c = 65 - c
 
 loop-holds : tie.Need-loop-holds Inv-loop μ-loop
 loop-holds c =
@@ -33,20 +35,25 @@ loop-holds c =
       omega arith,
       making-starts (λ c. minus (column (rowAt (now (a .nums)) (now (a .dens)) (a .left)) c) (column (rowAt (now (a .nums)) (now (a .dens)) (a .right)) c)) 0 65 (now (a .d-nums)) (now (a .d-dens)) (c .pre .1 .1 .1 .1 .0),
       within-more (λ k out. holds-none k) (c .pre .1 .1 .1 .1 .1 .1 .1),
+      from-starts (a .set),
     )
 
-next-requires : tie.Need-next-requires Inv-loop μ-loop
-next-requires c κs = search needs
+first-requires : tie.Need-first-requires Inv-loop μ-loop
+first-requires c κs = search needs
+
+-- the least of the rest is the next of the set
+next-found : (c : tie.After-first Inv-loop μ-loop) → Next (c .before .before .before .args .set) (c .before .before .loop .c) (c .first .result)
+next-found c = from-first (omega arith) (c .before .before .loop .inv .3) (c .first .ensures)
 
 -- the columns up to the next of the set are made
-skipped : (c : tie.After-next Inv-loop μ-loop) →
+skipped : (c : tie.After-first Inv-loop μ-loop) →
     let a = c .before .before .before .args in
-    Making (λ c. minus (column (rowAt (now (a .nums)) (now (a .dens)) (a .left)) c) (column (rowAt (now (a .nums)) (now (a .dens)) (a .right)) c)) 0 65 (c .next .result) (now (a .d-nums)) (now (a .d-dens)) (c .before .before .loop .d-nums) (c .before .before .loop .d-dens)
+    Making (λ c. minus (column (rowAt (now (a .nums)) (now (a .dens)) (a .left)) c) (column (rowAt (now (a .nums)) (now (a .dens)) (a .right)) c)) 0 65 (c .first .result) (now (a .d-nums)) (now (a .d-dens)) (c .before .before .loop .d-nums) (c .before .before .loop .d-dens)
 skipped c =
     let head = c .before .before in
     let a = head .before .args in
     let pre = head .before .pre .1 .1 in
-    difference-skips (now (a .nums)) (now (a .dens)) (a .left) (a .right) (pre .0) (pre .1 .0) (pre .1 .1 .0) (pre .1 .1 .1 .0) (pre .1 .1 .1 .1 .0) (pre .1 .1 .1 .1 .1) (c .next .ensures) (head .loop .inv .1)
+    difference-skips (now (a .nums)) (now (a .dens)) (a .left) (a .right) (pre .0) (pre .1 .0) (pre .1 .1 .0) (pre .1 .1 .1 .0) (pre .1 .1 .1 .1 .0) (pre .1 .1 .1 .1 .1) (next-found c) (head .loop .inv .1)
 
 add-get : tie.Need-add-get Inv-loop μ-loop
 add-get c = search needs
@@ -64,20 +71,20 @@ difference-requires : tie.Need-difference-requires Inv-loop μ-loop
 difference-requires c κs =
     let next = c .before .before in
     let start = next .before .before .before in (
-      subst Good (sym (c .before .get .ensures)) (start .pre .1 .1 .0 .good _ (omega (arith, next .next .ensures .most))),
-      subst Good (sym (c .get2 .ensures)) (start .pre .1 .1 .1 .0 .good _ (omega (arith, next .next .ensures .most))),
+      subst Good (sym (c .before .get .ensures)) (start .pre .1 .1 .0 .good _ (omega (arith, next .first .ensures .most))),
+      subst Good (sym (c .get2 .ensures)) (start .pre .1 .1 .1 .0 .good _ (omega (arith, next .first .ensures .most))),
     )
 
 -- what the difference answers is the rule's column
 cell-answers : (c : tie.After-difference Inv-loop μ-loop) →
     let next = c .before .before .before in
     let a = next .before .before .before .args in
-    Answers (c .difference .result) (minus (column (rowAt (now (a .nums)) (now (a .dens)) (a .left)) (next .next .result)) (column (rowAt (now (a .nums)) (now (a .dens)) (a .right)) (next .next .result)))
+    Answers (c .difference .result) (minus (column (rowAt (now (a .nums)) (now (a .dens)) (a .left)) (next .first .result)) (column (rowAt (now (a .nums)) (now (a .dens)) (a .right)) (next .first .result)))
 cell-answers c =
     let next = c .before .before .before in
     let a = next .before .before .before .args in
     subst (Answers (c .difference .result))
-    (column-differs (now (a .nums)) (now (a .dens)) (a .left) (a .right) (omega (arith, next .next .ensures .most)) (c .before .before .get .ensures) (c .before .get2 .ensures))
+    (column-differs (now (a .nums)) (now (a .dens)) (a .left) (a .right) (omega (arith, next .first .ensures .most)) (c .before .before .get .ensures) (c .before .get2 .ensures))
     (c .difference .ensures)
 
 enum-known-f : tie.Need-enum-known-f Inv-loop μ-loop
@@ -86,24 +93,32 @@ enum-known-f c = search needs
 put-requires : tie.Need-put-requires Inv-loop μ-loop
 put-requires c κs = search needs
 
+rest-requires : tie.Need-rest-requires Inv-loop μ-loop
+rest-requires c κs = search needs
+
 add-c : tie.Need-add-c Inv-loop μ-loop
 add-c c = search needs
 
 loop-less : tie.Need-loop-less Inv-loop μ-loop
-loop-less c = search needs
+loop-less c =
+    let next = c .before .before .before .before .before .before .before .before .before .before .before .before in
+    omega (arith, next-found next .forward, next .first .ensures .most)
 
 loop-again : tie.Need-loop-again Inv-loop μ-loop
 loop-again c =
-    let turn = c .before .before .before .before .before .before .before .before in
+    let put = c .before .before .before .put in
+    let turn = c .before .before .before .before .before .before .before .before .before in
     let next = turn .before .before .before in
-    let at = next .next .result in
-    let f = c .before .before .before .before .before .before .f .given in
+    let loop = next .before .before .loop in
+    let at = next .first .result in
+    let f = c .before .before .before .before .before .before .before .f .given in
     let pre = next .before .before .before .pre in
-    let most = next .next .ensures .most in (
+    let most = next .first .ensures .most in (
       omega (arith, most),
       turn-stores (skipped next) (cell-answers turn) (f .1) (sym (zero-add at))
-          (omega (arith, most, pre .1 .0)) (omega (arith, most, pre .1 .0)) (c .before .before .put .ensures .0) (c .before .before .put .ensures .1),
-      within-stores _ (next .next .ensures) (next .before .before .loop .inv .2) (sym (zero-add at)) (c .before .before .put .ensures .0),
+          (omega (arith, most, pre .1 .0)) (omega (arith, most, pre .1 .0)) (put .ensures .0) (put .ensures .1),
+      within-stores _ (next-found next) (loop .inv .2) (sym (zero-add at)) (put .ensures .0),
+      from-rest (omega (arith, next .before .loop-test .taken)) (loop .inv .3) (next .first .ensures) (c .rest .ensures),
     )
 
 enum-known-number : tie.Need-enum-known-number Inv-loop μ-loop
@@ -120,7 +135,7 @@ unfolding COLUMNS TERMS
 returns c =
     let turn = c .before .before .before in
     let next = turn .before .before .before in
-    (turn-stops (skipped next) (cell-answers turn) (c .before .number .given .1) (omega (arith, next .next .ensures .most)), next .before .before .loop .inv .2)
+    (turn-stops (skipped next) (cell-answers turn) (c .before .number .given .1) (omega (arith, next .first .ensures .most)), next .before .before .loop .inv .2)
 
 same-length-3 : tie.Need-same-length-3 Inv-loop μ-loop
 same-length-3 c = search needs
@@ -141,7 +156,7 @@ difference-spec =
     Inv-loop
     μ-loop
     loop-holds
-    next-requires
+    first-requires
     add-get
     get-requires
     add-get-2
@@ -149,6 +164,7 @@ difference-spec =
     difference-requires
     enum-known-f
     put-requires
+    rest-requires
     add-c
     loop-less
     loop-again

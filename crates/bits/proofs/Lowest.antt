@@ -1,13 +1,11 @@
 -- The least number of a set.
 -- Main result: `lowest`. Assumes nothing.
-use mathlib.Core.Path.{_≡_, refl, sym, ap, ap₂, _∙_}
-use mathlib.Core.Logic.{_⊎_, inl, inr}
-use mathlib.Core.Bool.{Bool, true, false, not, _&&_, and-self, and-true, true≢false}
-use Prim.Native.Nat.{ℕ, zero, suc, _-_, _*_, _/_, _%_, _^_, _<_}
+use mathlib.Core.Path.{_≡_, refl, ap, _∙_}
+use mathlib.Core.Bool.{false}
+use Prim.Native.Nat.{ℕ, zero, suc, _-_, _/_, _%_, _^_, _<_}
 use native.Mathlib.Nat.{pow-suc}
 use native.Mathlib.Omega.{arith}
-use borrow.Author.Tests.{eqb-true, eqb-false}
-use lib.Dec.{eqb, eqb·suc-zero, eqb·suc-suc}
+use lib.Dec.{eqb}
 use lib.Count.{trailingZeros, under}
 use Rattle.bits.specs.Sets.{holds, Least}
 use Rattle.bits.proofs.Digits.{holds-zero, holds-suc}

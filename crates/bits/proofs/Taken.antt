@@ -1,7 +1,7 @@
 -- A loop that takes the least number of a set, and goes on with the rest.
 -- Main definition: `From`. Main results: `least-taken`, `none-taken`, `from-starts`, `from-first`, `from-rest`. Assume nothing.
 use mathlib.Core.Path.{_≡_, refl, sym, ap, ap₂, _∙_}
-use mathlib.Core.Bool.{Bool, true, false, not, _&&_, and-self, and-false, false≢true}
+use mathlib.Core.Bool.{true, false, not, _&&_, and-self, and-false, false≢true}
 use Prim.Native.Nat.{ℕ, zero, suc, _+_, _-_, _/_, _%_, _^_, _<_, _≤_}
 use native.Mathlib.Decide.{ℕ-discrete, decLt}
 use native.Mathlib.Omega.{arith}

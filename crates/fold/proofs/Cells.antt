@@ -1,6 +1,6 @@
 -- One column of a fold: what the rule makes of it, and where the number stands as it is.
--- Main results: `folded-column`, `gained-then`, `gained-stops`, `gains-no-form`, `gains-nothing`. Assume nothing.
-use mathlib.Core.Path.{_≡_, refl, ap, _∙_}
+-- Main results: `folded-solved`, `folded-gains`, `gained-then`, `gained-stops`, `gains-no-form`, `gains-nothing`. Assume nothing.
+use mathlib.Core.Path.{_≡_, ap, _∙_}
 use mathlib.Core.Bool.{cond}
 use Prim.Native.Nat.{ℕ}
 use borrow.Author.Tests.{eq-eqb, ne-eqb}
@@ -13,22 +13,17 @@ use Rattle.arithmetic.specs.Values.{Good}
 use Rattle.arithmetic.proofs.Tests.{good-passes, zero-passes}
 use Rattle.run.specs.Row.{Row, column}
 use Rattle.run.specs.Merge.{foldedColumn}
-use Rattle.fold.specs.Cell.{gainedBy, foldedCell}
-
--- Column c of the rule's fold is the cell of the three numbers that it reads.
-pub folded-column : (p : ℕ) (form r : Row) (c : ℕ) → foldedColumn p form r c ≡ foldedCell c p (column r p) (column form c) (column r c)
-unfolding foldedColumn foldedCell gainedBy
-folded-column p form r c = refl
+use Rattle.fold.specs.Cell.{gainedBy}
 
 -- In the solved column the coefficient becomes 0.
-pub cell-solved : (c p : ℕ) (k f x : ℚ) → c ≡ p → foldedCell c p k f x ≡ made zeroℚ
-unfolding foldedCell
-cell-solved c p k f x same = ap (λ t. cond t (made zeroℚ) (gainedBy k f x)) (eq-eqb c p same)
+pub folded-solved : (p : ℕ) (form r : Row) (c : ℕ) → c ≡ p → foldedColumn p form r c ≡ made zeroℚ
+unfolding foldedColumn gainedBy
+folded-solved p form r c same = ap (λ t. cond t (made zeroℚ) (gainedBy (column r p) (column form c) (column r c))) (eq-eqb c p same)
 
 -- Any other column gains k times the form's.
-pub cell-gains : (c p : ℕ) (k f x : ℚ) → (c ≡ p → ⊥) → foldedCell c p k f x ≡ gainedBy k f x
-unfolding foldedCell
-cell-gains c p k f x other = ap (λ t. cond t (made zeroℚ) (gainedBy k f x)) (ne-eqb c p other)
+pub folded-gains : (p : ℕ) (form r : Row) (c : ℕ) → (c ≡ p → ⊥) → foldedColumn p form r c ≡ gainedBy (column r p) (column form c) (column r c)
+unfolding foldedColumn gainedBy
+folded-gains p form r c other = ap (λ t. cond t (made zeroℚ) (gainedBy (column r p) (column form c) (column r c))) (ne-eqb c p other)
 
 -- The product is made, and then the sum; a product that is refused is the end.
 pub gained-then : (k f x : ℚ) {q : ℚ} → times k f ≡ made q → gainedBy k f x ≡ plus x q

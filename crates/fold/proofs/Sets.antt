@@ -32,7 +32,7 @@ use Rattle.table.proofs.Sparse.{zero-numerator, stirred-itself}
 use Rattle.table.proofs.Stirred.{within-kept}
 use Rattle.table.proofs.Turns.{finished-done}
 use Rattle.fold.specs.Sets.{Noted, Turn}
-use Rattle.fold.proofs.Cells.{folded-column, cell-solved}
+use Rattle.fold.proofs.Cells.{folded-solved}
 use Rattle.fold.proofs.Columns.{column-stands}
 
 -- The two stores of a noting.
@@ -76,7 +76,7 @@ module _ {p set base : ℕ} {form-nums form-dens nums₀ dens₀ : List ℤ} (un
       by : (c : ℕ) → c < 64 → holds after c ≡ false → Dec (c ≡ p) → value (heldAt nums dens (base + c)) ≡ zeroℚ
       by c below out (yes same) =
           let made-here = column-made turn done c (omega arith) in
-          let rule = folded-column p (rowAt form-nums form-dens 0) (rowAt nums₀ dens₀ base) c ∙ cell-solved c p _ _ _ same in
+          let rule = folded-solved p (rowAt form-nums form-dens 0) (rowAt nums₀ dens₀ base) c same in
           cc
       by c below out (no other) =
           let neither = in-neither (eqb c p) (holds before c) (holds set c) (ne-eqb c p other) (sym (noted c) ∙ out) in

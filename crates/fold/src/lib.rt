@@ -17,16 +17,20 @@ ghost use Rattle.table.specs.Held.{rowAt, tableAt, SoundTo, finished};
 ghost use Rattle.table.specs.Loop.{Kept, RowMade};
 ghost use Rattle.table.specs.Sparse.{Within, Sparse, Stirred};
 ghost use Rattle.table.specs.declared.Step.the-variants.{Done};
-ghost use Rattle.fold.specs.Cell.{gainedBy, foldedCell};
+ghost use Rattle.fold.specs.Cell.{gainedBy, reached, gainedColumn};
 ghost use Rattle.fold.specs.Sets.{Noted, Turn};
 
-// The old number gains k times the form's: one product, one sum.
+// The old number gains k times the form's: one product, one sum. Where the form holds 0 the number stands, and 1 time the form is
+// the form: both need no product.
 fn gained(k: Fraction, form: Fraction, old: Fraction) -> Made
     requires { ⌜ Good k ⌝ }
     requires { ⌜ Good form ⌝ }
     requires { ⌜ Good old ⌝ }
     ensures { λ r. ⌜ Answers r (gainedBy (value k) (value form) (value old)) ⌝ }
 {
+    if form.num == 0 {
+        return Made::Fits(old);
+    }
     if k.den == 1 {
         if k.num == 1 {
             return sums::sum(old, form);
@@ -38,24 +42,43 @@ fn gained(k: Fraction, form: Fraction, old: Fraction) -> Made
     }
 }
 
-// Column c of a row; where the form holds 0 the number stands.
-fn folded_cell(c: usize, p: usize, k: Fraction, form: Fraction, old: Fraction) -> Made
+// The columns of a set, and the constant's, of the row at base: each gains k times the form's.
+fn gain_columns(
+    nums: &mut [i32],
+    dens: &mut [i32],
+    base: usize,
+    k: Fraction,
+    set: u64,
+    form_nums: &[i32],
+    form_dens: &[i32],
+) -> Step
+    requires { ⌜ (base + 65 ≤ 4160) × (4160 ≤ length (now nums)) × (4160 ≤ length (now dens)) ⌝ }
+    requires { ⌜ (65 ≤ length (now «form_nums»)) × (65 ≤ length (now «form_dens»)) ⌝ }
     requires { ⌜ Good k ⌝ }
-    requires { ⌜ Good form ⌝ }
-    requires { ⌜ Good old ⌝ }
-    ensures { λ r. ⌜ Answers r (foldedCell c p (value k) (value form) (value old)) ⌝ }
+    requires { ⌜ SoundTo (base + 65) (now nums) (now dens) ⌝ }
+    requires { ⌜ SoundTo 65 (now «form_nums») (now «form_dens») ⌝ }
+    ensures { λ r. ⌜ RowMade (reached set (gainedColumn (value k) (rowAt (now («form_nums» .entry)) (now («form_dens» .entry)) 0) (rowAt (now (nums .entry)) (now (dens .entry)) base)) (rowAt (now (nums .entry)) (now (dens .entry)) base)) base (base + 65) r (now (nums .entry)) (now (dens .entry)) (now (nums .exit)) (now (dens .exit)) ⌝ }
 {
-    if c == p {
-        return Made::Fits(Fraction { num: 0, den: 1 });
+    let mut rest = set;
+    let mut c: usize = 0;
+    while c < COLUMNS {
+        let at = bits::first(rest);
+        let form = table::get(form_nums, form_dens, at);
+        let old = table::get(nums, dens, base + at);
+        match gained(k, form, old) {
+            Made::Fits(f) => {
+                table::put(nums, dens, base + at, f);
+                rest = bits::rest(rest);
+                c = at + 1;
+            }
+            Made::Refused(number) => return Step::Refused(number),
+        }
     }
-    if form.num == 0 {
-        return Made::Fits(old);
-    }
-    gained(k, form, old)
+    Step::Done
 }
 
-// The columns of the row at base, with the form of p folded in. Where the form holds 0 they stand: only those of its set are gone
-// through, and the constant's.
+// The columns of the row at base, with the form of p folded in. The coefficient at p becomes 0; of the others, those where the form
+// holds 0 stand, so that only those of its set are gone through, and the constant's.
 fn fold_columns(
     nums: &mut [i32],
     dens: &mut [i32],
@@ -74,20 +97,16 @@ fn fold_columns(
     ensures { λ r. ⌜ RowMade (foldedColumn p (rowAt (now («form_nums» .entry)) (now («form_dens» .entry)) 0) (rowAt (now (nums .entry)) (now (dens .entry)) base)) base (base + 65) r (now (nums .entry)) (now (dens .entry)) (now (nums .exit)) (now (dens .exit)) ⌝ }
 {
     let k = table::get(nums, dens, base + p);
-    let mut c: usize = 0;
-    while c < COLUMNS {
-        let at = bits::next(set, c);
-        let form = table::get(form_nums, form_dens, at);
-        let old = table::get(nums, dens, base + at);
-        match folded_cell(at, p, k, form, old) {
-            Made::Fits(f) => {
-                table::put(nums, dens, base + at, f);
-                c = at + 1;
-            }
-            Made::Refused(number) => return Step::Refused(number),
-        }
-    }
-    Step::Done
+    table::put(nums, dens, base + p, Fraction { num: 0, den: 1 });
+    gain_columns(
+        nums,
+        dens,
+        base,
+        k,
+        bits::without(set, p),
+        form_nums,
+        form_dens,
+    )
 }
 
 // The form of p, with the columns of its set, comes into row t: the row may have them from then on, and p no more; and the lookups

@@ -1,5 +1,5 @@
 -- A loop that takes the least number of a set, and goes on with the rest.
--- Main definition: `From`. Main results: `least-taken`, `none-taken`, `from-starts`, `from-first`, `from-rest`. Assume nothing.
+-- Main definition: `From`. Main results: `least-taken`, `none-taken`, `from-starts`, `from-first`, `from-here`, `from-rest`. Assume nothing.
 use mathlib.Core.Path.{_≡_, refl, sym, ap, ap₂, _∙_}
 use mathlib.Core.Bool.{true, false, not, _&&_, and-self, and-false, false≢true}
 use Prim.Native.Nat.{ℕ, zero, suc, _+_, _-_, _/_, _%_, _^_, _<_, _≤_}
@@ -78,7 +78,11 @@ module _ {set c rest at : ℕ} (small : c ≤ 64) (from : From set c rest) (firs
       by (yes low) = absurd (false≢true (sym (from .passed at low) ∙ first .inside (omega arith)))
       by (no on) = omega arith
 
-  -- The rest's rest has the numbers from there on.
+  -- The rest has the numbers from there on.
+  pub from-here : From set at rest
+  from-here = record { passed = λ k below. first .none-between k (omega arith) below; same = λ k above. from .same k (omega (arith, from-first .forward)) }
+
+  -- Its own rest has those behind it.
   pub from-rest : {after : ℕ} → Rest rest after → From set (at + 1) after
   from-rest {after} taken =
       record {

@@ -1,7 +1,7 @@
 -- Pairs noted right side by right side.
--- Main results: `grown-itself`, `grown-then`, `right-noted`, `Waking`, `waking-starts`, `waking-skips`, `waking-more`, `woken-ends`, `woken-idle`. Assume nothing.
+-- Main results: `grown-itself`, `grown-then`, `right-noted`, `Waking`, `waking-skips`, `waking-more`, `woken-ends`, `woken-idle`. Assume nothing.
 use mathlib.Core.Path.{_≡_, refl, sym, ap, ap₂, _∙_}
-use mathlib.Core.Bool.{Bool, true, false, _&&_, _||_, false≢true, and-eq-true-iff, and-false, or-true}
+use mathlib.Core.Bool.{true, false, _&&_, _||_, false≢true, and-false, or-true}
 use mathlib.Core.List.{List}
 use Prim.Native.Nat.{ℕ, _+_, _≤_, _<_}
 use native.Mathlib.Decide.{ℕ-discrete, decLt}
@@ -51,18 +51,6 @@ module _ (waiting : List ℕ) (j lefts rights woken : ℕ) (place : j < 64) (lon
 pub record Waking (sets waiting₀ : List ℕ) (j : ℕ) (waiting : List ℕ) : Type 0 where
   pub grown : Grown waiting₀ waiting
   pub adds : (i k : ℕ) → i < k → k < j → k < 64 → holds (openOf sets) k ≡ true → isWoken sets i k ≡ true → Waits waiting i k
-
--- No right side is before the first open lookup that is pending.
-pub waking-starts : {sets : List ℕ} (waiting : List ℕ) (both : ℕ) {first : ℕ} → ((k : ℕ) → holds both k ≡ (holds (pendingOf sets) k && holds (openOf sets) k)) → Next both 0 first → Waking sets waiting first waiting
-waking-starts {sets} waiting both {first} told next =
-    record { grown = grown-itself waiting; adds = λ i k before low small inside is. let parts = and-eq-true-iff (holds (earlierOf sets k) i && holds (openOf sets) i) _ .0 is in absurd (by i k before low inside (and-eq-true-iff (holds (earlierOf sets k) i) (holds (openOf sets) i) .0 (parts .0) .1) (holds (pendingOf sets) i) refl (parts .1)) }
-  where
-    none : (k : ℕ) → k < first → holds (pendingOf sets) k ≡ true → holds (openOf sets) k ≡ true → ⊥
-    none k low pending inside = false≢true (sym (next .none-between k (omega arith) low) ∙ told k ∙ ap₂ _&&_ pending inside)
-
-    by : (i k : ℕ) → i < k → k < first → holds (openOf sets) k ≡ true → holds (openOf sets) i ≡ true → (b : Bool) → holds (pendingOf sets) i ≡ b → (holds (pendingOf sets) i || holds (pendingOf sets) k) ≡ true → ⊥
-    by i k before low right left true pending either = none i (omega arith) pending left
-    by i k before low right left false asleep either = none k low (ap (λ b. b || holds (pendingOf sets) k) (sym asleep) ∙ either) right
 
 -- Right sides that are not open need no turn.
 pub waking-skips : {sets waiting₀ waiting : List ℕ} {from on : ℕ} → Next (openOf sets) from on → Waking sets waiting₀ from waiting → Waking sets waiting₀ on waiting

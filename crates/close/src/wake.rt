@@ -40,7 +40,7 @@ fn wake_right(sets: &[u64], waiting: &mut [u64], j: usize)
     waiting[RIGHTS] = rights;
 }
 
-// Every pair of open lookups with a pending side waits from now on. No right side is before the first of those that are pending.
+// Every pair of open lookups with a pending side waits from now on.
 pub(crate) fn wake(n: usize, sets: &mut [u64], waiting: &mut [u64])
     requires { ⌜ (n ≤ 64) × (194 ≤ length (now sets)) × (65 ≤ length (now waiting)) ⌝ }
     ensures { λ r. ⌜ Woken n (now (sets .entry)) (now (sets .exit)) (now (waiting .entry)) (now (waiting .exit)) ⌝ }
@@ -48,12 +48,12 @@ pub(crate) fn wake(n: usize, sets: &mut [u64], waiting: &mut [u64])
     if sets[PENDING] == 0 {
         return;
     }
-    let open = sets[OPEN];
-    let first = bits::next(bits::common(sets[PENDING], open), 0);
-    let mut j = bits::next(open, first);
+    let mut rest = sets[OPEN];
+    let mut j = bits::first(rest);
     while j < n {
         wake_right(sets, waiting, j);
-        j = bits::next(open, j + 1);
+        rest = bits::rest(rest);
+        j = bits::first(rest);
     }
     sets[PENDING] = 0;
 }

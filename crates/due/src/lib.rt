@@ -174,12 +174,14 @@ fn left_due(
     ensures { λ r. ⌜ ((terms : List Term) → Lookups terms n (now (heads .entry)) (now (inputs .entry)) → leftAmong lefts terms (tableAt n (now (nums .entry)) (now (dens .entry))) j ≡ pairOf r) ⌝ }
     ensures { λ r. ⌜ Below n r ⌝ }
 {
-    let mut i = bits::next(lefts, 0);
+    let mut rest = lefts;
+    let mut i = bits::first(rest);
     while i < j {
         if is_due(nums, dens, n, heads, inputs, sets, i, j) {
             return Due::Pair { left: i, right: j };
         }
-        i = bits::next(lefts, i + 1);
+        rest = bits::rest(rest);
+        i = bits::first(rest);
     }
     Due::Closed
 }

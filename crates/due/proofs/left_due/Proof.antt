@@ -1,12 +1,13 @@
 -- `due::left_due` meets its contract: what is left to search from i on gives what the search among the lefts gives. Assumes nothing.
 use borrow.Author.Needs.{needs}
-use mathlib.Core.Path.{_≡_, _∙_}
-use mathlib.Core.Bool.{true, cond}
+use mathlib.Core.Path.{_≡_, sym, _∙_}
+use mathlib.Core.Bool.{cond}
 use mathlib.Core.Option.{some, none}
 use mathlib.Core.List.{List}
-use Prim.Native.Nat.{ℕ, _-_, _<_}
+use Prim.Native.Nat.{ℕ, _+_, _-_, _<_}
 use native.Mathlib.Omega.{arith}
-use Rattle.bits.specs.Sets.{holds, Next}
+use Rattle.bits.specs.Sets.{Next}
+use Rattle.bits.proofs.Taken.{From, from-starts, from-first, from-here, from-rest}
 use Rattle.problem.specs.declared.Term.{Term}
 use Rattle.run.specs.Row.{Table}
 use Rattle.run.specs.Close.{first}
@@ -18,15 +19,16 @@ use Rattle.due.proofs.left_due.Statement.{statement}
 use Rattle.due.proofs.left_due.Tie as tie
 
 abbrev Inv-loop : tie.InvT-loop
-Inv-loop nums dens n heads inputs sets lefts j i₀ i =
-    (i < 64 → holds lefts i ≡ true)
+Inv-loop nums dens n heads inputs sets lefts j rest₀ i₀ rest i =
+    From lefts i rest
+    × Next rest 0 i
     × ((terms : List Term) → Lookups terms n heads inputs → leftAmong lefts terms (tableAt n nums dens) j ≡ first (j - i) i (pairAmong lefts terms (tableAt n nums dens) j))
 
 abbrev μ-loop : tie.MeasureT-loop
-μ-loop nums dens n heads inputs sets lefts j i₀ i = j - i
+μ-loop nums dens n heads inputs sets lefts j rest₀ i₀ rest i = j - i
 
-next-requires : tie.Need-next-requires Inv-loop μ-loop
-next-requires c κs = search needs
+first-requires : tie.Need-first-requires Inv-loop μ-loop
+first-requires c κs = search needs
 
 abbrev table-of : tie.Start Inv-loop μ-loop → Table
 table-of s = tableAt (s .args .n) (s .args .nums .now) (s .args .dens .now)
@@ -37,7 +39,10 @@ on-from s {from} {on} next terms =
     first-skips _ (s .args .j) from on (next .forward) λ k above short low. among-passed (s .args .lefts) terms (table-of s) (s .args .j) k (next .none-between k above short)
 
 loop-holds : tie.Need-loop-holds Inv-loop μ-loop
-loop-holds c = (c .next .ensures .inside, λ terms lookups. among-searched _ terms _ _ ∙ on-from (c .before .before .before .before) (c .next .ensures) terms)
+loop-holds c =
+    let start = c .before .before .before .before in
+    let next = c .first .ensures in
+    (from-here (omega arith) (from-starts (start .args .lefts)) next, next, λ terms lookups. among-searched _ terms _ _ ∙ on-from start next terms)
 
 is-due-requires : tie.Need-is-due-requires Inv-loop μ-loop
 is-due-requires c κs = search needs
@@ -46,43 +51,53 @@ is-due-requires c κs = search needs
 given : (c : tie.After-is-due Inv-loop μ-loop) (terms : List Term) → let s = c .before .before .before .before .before .before .before in Lookups terms (s .args .n) (s .args .heads .now) (s .args .inputs .now) → pairAmong (s .args .lefts) terms (table-of s) (s .args .j) (c .before .before .loop .i) ≡ cond (c .is-due .result) (some (record { left = c .before .before .loop .i; right = s .args .j })) none
 given c terms lookups =
     let s = c .before .before .before .before .before .before .before in
-    among-there (s .args .lefts) terms _ _ _ (c .before .before .loop .inv .0 (search needs)) ∙ pair-given terms _ _ _ (c .is-due .result) (c .is-due .ensures terms lookups)
+    let h = c .before .before .loop in
+    among-there (s .args .lefts) terms _ _ _ (sym (h .inv .0 .same (h .i) (omega arith)) ∙ h .inv .1 .inside (search needs)) ∙ pair-given terms _ _ _ (c .is-due .result) (c .is-due .ensures terms lookups)
 
 returns : tie.Need-returns Inv-loop μ-loop
 unfolding pairOf Below
 returns c =
     let start = c .before .before .before .before .before .before .before .before in
     let head = c .before .before .before .loop in (
-      λ terms lookups. head .inv .1 terms lookups ∙ first-found _ (start .args .j) (head .i) _ (search needs) (given (c .before) terms lookups ∙ rw (c .if1 .taken)),
+      λ terms lookups. head .inv .2 terms lookups ∙ first-found _ (start .args .j) (head .i) _ (search needs) (given (c .before) terms lookups ∙ rw (c .if1 .taken)),
       (search needs, search needs),
     )
 
-add-next : tie.Need-add-next Inv-loop μ-loop
-add-next c = search needs
+rest-requires : tie.Need-rest-requires Inv-loop μ-loop
+rest-requires c κs = search needs
 
-next-requires-2 : tie.Need-next-requires-2 Inv-loop μ-loop
-next-requires-2 c κs = search needs
+first-requires-2 : tie.Need-first-requires-2 Inv-loop μ-loop
+first-requires-2 c κs = search needs
+
+-- the left side after this one
+onward : (c : tie.After-first2 Inv-loop μ-loop) → let h = c .before .before .before .before .before in Next (h .before .before .before .before .before .args .lefts) (h .loop .i + 1) (c .first2 .result) × From (h .before .before .before .before .before .args .lefts) (c .first2 .result) (c .before .rest .result)
+onward c =
+    let h = c .before .before .before .before .before .loop in
+    let few : h .i < 64 = search needs in
+    let later = from-rest (omega arith) (h .inv .0) (h .inv .1) (c .before .rest .ensures) in
+    (from-first (omega arith) later (c .first2 .ensures), from-here (omega arith) later (c .first2 .ensures))
 
 loop-less : tie.Need-loop-less Inv-loop μ-loop
-loop-less c = let forward = c .next2 .ensures .forward in search needs
+loop-less c = let forward = onward c .0 .forward in search needs
 
 loop-again : tie.Need-loop-again Inv-loop μ-loop
 loop-again c = (
-  c .next2 .ensures .inside,
+  onward c .1,
+  c .first2 .ensures,
   λ terms lookups.
-      let test = c .before .before in
+      let test = c .before .before .before in
       let head = test .before .before in
       let start = head .before .before .before .before .before in
-      head .loop .inv .1 terms lookups
-      ∙ first-passed _ (start .args .j) (head .loop .i) (search needs) (given test terms lookups ∙ rw (c .before .if1 .left))
-      ∙ on-from start (c .next2 .ensures) terms,
+      head .loop .inv .2 terms lookups
+      ∙ first-passed _ (start .args .j) (head .loop .i) (search needs) (given test terms lookups ∙ rw (c .before .before .if1 .left))
+      ∙ on-from start (onward c .0) terms,
 )
 
 returns-2 : tie.Need-returns-2 Inv-loop μ-loop
 unfolding pairOf Below
 returns-2 c =
     let start = c .before .before .before .before .before .before in
-    (λ terms lookups. c .before .loop .inv .1 terms lookups ∙ first-over _ (start .args .j) (c .before .loop .i) (search needs), tt)
+    (λ terms lookups. c .before .loop .inv .2 terms lookups ∙ first-over _ (start .args .j) (c .before .loop .i) (search needs), tt)
 
 pub left-due-spec : {M : Type 1} → statement M
 left-due-spec =
@@ -90,12 +105,12 @@ left-due-spec =
     (tie.spec
     Inv-loop
     μ-loop
-    next-requires
+    first-requires
     loop-holds
     is-due-requires
     returns
-    add-next
-    next-requires-2
+    rest-requires
+    first-requires-2
     loop-less
     loop-again
     returns-2)

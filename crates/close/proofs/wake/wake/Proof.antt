@@ -1,17 +1,19 @@
 -- `close::wake::wake` meets its contract. Assumes nothing.
 use borrow.Author.Needs.{needs}
-use Prim.Native.Nat.{_-_}
+use Prim.Native.Nat.{_+_, _-_, _<_}
 use native.Mathlib.Omega.{arith}
+use Rattle.bits.specs.Sets.{Next}
+use Rattle.bits.proofs.Taken.{From, from-starts, from-first, from-here, from-rest}
 use Rattle.table.specs.Sparse.{pendingOf, openOf}
-use Rattle.close.proofs.Waking.{Waking, waking-starts, waking-skips, waking-more, woken-ends, woken-idle}
+use Rattle.close.proofs.Waking.{Waking, grown-itself, waking-skips, waking-more, woken-ends, woken-idle}
 use Rattle.close.proofs.wake.wake.Statement.{statement}
 use Rattle.close.proofs.wake.wake.Tie as tie
 
 abbrev Inv-loop : tie.InvT-loop
-Inv-loop n sets waiting₀ opened start-at j₀ waiting j = Waking sets waiting₀ j waiting
+Inv-loop n sets waiting₀ rest₀ j₀ waiting rest j = Waking sets waiting₀ j waiting × From (openOf sets) j rest × Next rest 0 j
 
 abbrev μ-loop : tie.MeasureT-loop
-μ-loop n sets waiting₀ opened start-at j₀ waiting j = n - j
+μ-loop n sets waiting₀ rest₀ j₀ waiting rest j = n - j
 
 slice-read-if1 : tie.Need-slice-read-if1 Inv-loop μ-loop
 slice-read-if1 c = search needs
@@ -20,43 +22,46 @@ returns : tie.Need-returns Inv-loop μ-loop
 unfolding pendingOf
 returns c = woken-idle _ _ (c .if1 .taken)
 
-slice-read-open : tie.Need-slice-read-open Inv-loop μ-loop
-slice-read-open c = search needs
+slice-read-rest : tie.Need-slice-read-rest Inv-loop μ-loop
+slice-read-rest c = search needs
 
-slice-read-common : tie.Need-slice-read-common Inv-loop μ-loop
-slice-read-common c = search needs
-
-common-requires : tie.Need-common-requires Inv-loop μ-loop
-common-requires c κs = search needs
-
-next-requires : tie.Need-next-requires Inv-loop μ-loop
-next-requires c κs = search needs
-
-next-requires-2 : tie.Need-next-requires-2 Inv-loop μ-loop
-next-requires-2 c κs = let most = c .next .ensures .most in search needs
+first-requires : tie.Need-first-requires Inv-loop μ-loop
+first-requires c κs = search needs
 
 loop-holds : tie.Need-loop-holds Inv-loop μ-loop
-unfolding openOf pendingOf
-loop-holds c = waking-skips (c .next2 .ensures) (waking-starts _ (c .before .before .common .result) (c .before .before .common .ensures) (c .before .next .ensures))
+unfolding openOf
+loop-holds c =
+    let next = c .first .ensures in
+    (waking-skips next (record { grown = grown-itself _; adds = λ i k before low. absurd (omega arith) }), from-here (omega arith) (from-starts _) next, next)
 
 wake-right-requires : tie.Need-wake-right-requires Inv-loop μ-loop
-wake-right-requires c κs = let sized = c .before .before .before .loop .inv .grown .same-length in search needs
+wake-right-requires c κs = let sized = c .before .before .before .loop .inv .0 .grown .same-length in search needs
 
-add-next : tie.Need-add-next Inv-loop μ-loop
-add-next c = search needs
+rest-requires : tie.Need-rest-requires Inv-loop μ-loop
+rest-requires c κs = search needs
 
-next-requires-3 : tie.Need-next-requires-3 Inv-loop μ-loop
-next-requires-3 c κs = search needs
+first-requires-2 : tie.Need-first-requires-2 Inv-loop μ-loop
+first-requires-2 c κs = search needs
+
+abbrev head : tie.After-first2 Inv-loop μ-loop → tie.At-loop Inv-loop μ-loop
+head c = c .before .before .before .before .before .before .before .before
+
+-- the right side after this one
+onward : (c : tie.After-first2 Inv-loop μ-loop) → let h = head c in let sets = h .before .before .before .before .before .before .before .args .sets .now in Next (openOf sets) (h .loop .j + 1) (c .first2 .result) × From (openOf sets) (c .first2 .result) (c .before .rest .result)
+onward c =
+    let h = head c .loop in
+    let few : h .j < 64 = search needs in
+    let later = from-rest (omega arith) (h .inv .1) (h .inv .2) (c .before .rest .ensures) in
+    (from-first (omega arith) later (c .first2 .ensures), from-here (omega arith) later (c .first2 .ensures))
 
 loop-less : tie.Need-loop-less Inv-loop μ-loop
-loop-less c = let forward = c .next3 .ensures .forward in search needs
+loop-less c = let forward = onward c .0 .forward in search needs
 
 loop-again : tie.Need-loop-again Inv-loop μ-loop
-unfolding openOf
 loop-again c =
-    let turn = c .before .before .before in
-    let head = turn .before .before .before .before in
-    waking-skips (c .next3 .ensures) (waking-more (head .loop .j) (turn .wake-right .ensures .0) (turn .wake-right .ensures .1) (head .loop .inv))
+    let turn = c .before .before .before .before .wake-right in
+    let h = head c .loop in
+    (waking-skips (onward c .0) (waking-more (h .j) (turn .ensures .0) (turn .ensures .1) (h .inv .0)), onward c .1, c .first2 .ensures)
 
 slice-write-sets : tie.Need-slice-write-sets Inv-loop μ-loop
 slice-write-sets c = search needs
@@ -65,12 +70,12 @@ same-length : tie.Need-same-length Inv-loop μ-loop
 same-length c = search needs
 
 same-length-2 : tie.Need-same-length-2 Inv-loop μ-loop
-same-length-2 c = c .before .loop .inv .grown .same-length
+same-length-2 c = c .before .loop .inv .0 .grown .same-length
 
 returns-2 : tie.Need-returns-2 Inv-loop μ-loop
 returns-2 c =
-    let start = c .before .before .before .before .before .before .before .before .before .before .before in
-    woken-ends _ (search needs) (start .pre .0) (omega (arith, start .pre)) (c .before .loop .inv)
+    let start = c .before .before .before .before .before .before .before .before in
+    woken-ends _ (search needs) (start .pre .0) (omega (arith, start .pre)) (c .before .loop .inv .0)
 
 pub wake-spec : {M : Type 1} → statement M
 wake-spec =
@@ -80,15 +85,12 @@ wake-spec =
     μ-loop
     slice-read-if1
     returns
-    slice-read-open
-    slice-read-common
-    common-requires
-    next-requires
-    next-requires-2
+    slice-read-rest
+    first-requires
     loop-holds
     wake-right-requires
-    add-next
-    next-requires-3
+    rest-requires
+    first-requires-2
     loop-less
     loop-again
     slice-write-sets

@@ -1,42 +1,67 @@
--- A column that the loop comes to, or passes over: the numbers that it reads, from the lists as they are then.
--- Main results: `column-solved`, `solved-skips`. Assume nothing.
-use mathlib.Core.Path.{_≡_, sym, ap, ap₂, _∙_}
+-- The columns of a solved form: those that the loop comes to, and the row that it makes with 0 in the column of the unknown.
+-- Main results: `column-scaled`, `row-solved`, `within-apart`, `within-again`. Assume nothing.
+use mathlib.Core.Path.{_≡_, refl, sym, ap, ap₂, _∙_}
 use mathlib.Core.Logic.{inr}
+use mathlib.Core.Bool.{false, not, _&&_, and-false}
 use mathlib.Core.List.{List}
-use Prim.Native.Nat.{ℕ, _<_}
+use Prim.Native.Nat.{ℕ, _+_, _<_}
+use native.Mathlib.Nat.{zero-add}
+use native.Mathlib.Decide.{ℕ-discrete}
 use native.Mathlib.Omega.{arith}
-use lib.IntN.{ℤ}
+use borrow.Author.Tests.{ne-eqb}
+use lib.Dec.{eqb}
+use lib.IntN.{ℤ, pos}
+use lib.ListN.{getD}
+use Rattle.bits.specs.Sets.{holds}
 use Rattle.fraction.specs.declared.Fraction.{Fraction}
-use Rattle.fraction.specs.Exact.{value, negℚ, inverse}
-use Rattle.fraction.specs.Made.{made}
-use Rattle.bits.specs.Sets.{Next}
+use Rattle.fraction.specs.Exact.{ℚ, value, zeroℚ, negℚ, inverse}
+use Rattle.fraction.specs.Limits.{times}
+use Rattle.fraction.specs.Made.{Made, made}
 use Rattle.arithmetic.specs.Values.{Stands}
 use Rattle.run.specs.Row.{column}
 use Rattle.run.specs.Merge.{solvedColumn}
+use Rattle.table.specs.declared.Step.{Step}
 use Rattle.table.specs.Held.{heldAt, rowAt, SoundTo}
-use Rattle.table.specs.Loop.{Making}
+use Rattle.table.specs.Loop.{Making, RowMade}
 use Rattle.table.specs.Sparse.{Within}
 use Rattle.table.proofs.Columns.{column-first}
-use Rattle.table.proofs.Sparse.{making-skips, within-value}
+use Rattle.table.proofs.Sparse.{within-more}
+use Rattle.fold.specs.Cell.{reached}
+use Rattle.fold.proofs.Reached.{Stored, stored-other, row-apart}
 use Rattle.difference.proofs.Columns.{column-nothing}
-use Rattle.solve.specs.Cell.{solvedCell}
-use Rattle.solve.proofs.Cells.{solved-column, cell-nothing}
+use Rattle.solve.specs.Cell.{scaledColumn}
+use Rattle.solve.proofs.Cells.{solved-itself, solved-other, solved-nothing}
 
-module _ (p : ℕ) (nums₀ dens₀ : List ℤ) where
-  -- The rule reads the difference as it was at entry; from column c on the lists still hold that.
-  pub column-solved : p < 64 → {m c : ℕ} {nums dens : List ℤ} {k factor x : Fraction} → Making (solvedColumn p (rowAt nums₀ dens₀ 0)) 0 m c nums₀ dens₀ nums dens → c < 65 → k ≡ heldAt nums₀ dens₀ p → Stands factor (negℚ (inverse (value k))) → x ≡ heldAt nums dens c → solvedCell c p (value factor) (value x) ≡ solvedColumn p (rowAt nums₀ dens₀ 0) c
-  column-solved unknown {m} {c} making below divisor stands here =
-      let k-is = ap value divisor ∙ sym (column-first nums₀ dens₀ p (omega arith)) in
-      let factor-is = stands .same ∙ ap (λ q. negℚ (inverse q)) k-is in
-      let x-is = ap value (here ∙ making .kept .outside c (inr (omega arith))) ∙ sym (column-first nums₀ dens₀ c below) in
-      ap₂ (solvedCell c p) factor-is x-is ∙ sym (solved-column p (rowAt nums₀ dens₀ 0) c)
+-- The loop reads the difference as it was at its beginning; from column c on the lists still hold that.
+pub column-scaled : (factor : ℚ) {m c : ℕ} {g : ℕ → Made ℕ ℚ} {nums₀ dens₀ nums dens : List ℤ} {x : Fraction} → Making g 0 m c nums₀ dens₀ nums dens → c < 65 → x ≡ heldAt nums dens c → times factor (value x) ≡ scaledColumn factor (rowAt nums₀ dens₀ 0) c
+unfolding scaledColumn
+column-scaled factor {c = c} {nums₀ = nums₀} {dens₀} making below here =
+    ap (times factor) (ap value (here ∙ making .kept .outside c (inr (omega arith))) ∙ sym (column-first nums₀ dens₀ c below))
 
-  -- The columns between two that the set holds need no turn: the difference holds 0 there, and so does the form.
-  pub solved-skips : {s c at : ℕ} {nums dens : List ℤ} → SoundTo 65 nums₀ dens₀ → Within s 0 nums₀ → Next s c at → Making (solvedColumn p (rowAt nums₀ dens₀ 0)) 0 65 c nums₀ dens₀ nums dens → Making (solvedColumn p (rowAt nums₀ dens₀ 0)) 0 65 at nums₀ dens₀ nums dens
-  solved-skips {at = at} sound within next making =
-      making-skips at (next .forward) (λ k above below.
-      let term : k < 64 = omega (arith, next .most) in
-      let out = next .none-between k above below in
+module _ (p set others : ℕ) (without : (c : ℕ) → holds others c ≡ (not (eqb c p) && holds set c)) where
+  -- The form is made where 0 is stored in column p, and the other columns of the set, with the constant's, are multiplied by the factor.
+  pub row-solved : {k factor f : Fraction} {step : Step} {nums₀ dens₀ nums₁ dens₁ nums dens : List ℤ} → p < 64 → SoundTo 65 nums₀ dens₀ → Within set 0 nums₀ → k ≡ heldAt nums₀ dens₀ p → Stands factor (negℚ (inverse (value k))) → Stored p f nums₀ dens₀ nums₁ dens₁ → value f ≡ zeroℚ → RowMade (reached others (scaledColumn (value factor) (rowAt nums₁ dens₁ 0)) (rowAt nums₁ dens₁ 0)) 0 65 step nums₁ dens₁ nums dens → RowMade (solvedColumn p (rowAt nums₀ dens₀ 0)) 0 65 step nums₀ dens₀ nums dens
+  unfolding scaledColumn
+  row-solved {k} {factor} {f} {nums₀ = nums₀} {dens₀} {nums₁} {dens₁} unknown sound within divisor stands stored nought =
       let d = rowAt nums₀ dens₀ 0 in
-      solved-column p d k ∙ ap (solvedCell k p (negℚ (inverse (column d p)))) (column-nothing k within sound (omega arith) term out)
-      ∙ cell-nothing k p (negℚ (inverse (column d p))) ∙ ap made (sym (within-value k within sound (omega arith) term out))) making
+      let there : Stored (0 + p) f nums₀ dens₀ nums₁ dens₁ = rw zero-add stored in
+      let factor-is : negℚ (inverse (column d p)) ≡ value factor = ap (λ q. negℚ (inverse q)) (column-first nums₀ dens₀ p (omega arith) ∙ sym (ap value divisor)) ∙ sym (stands .same) in
+      row-apart p 0 unknown there set others without nought (solved-itself p d p refl)
+      (λ c below other. solved-other p d c other ∙ ap₂ times factor-is (sym (stored-other p 0 unknown there c below other)))
+      (λ c below other out.
+      let none = column-nothing c within sound (omega arith) below out in
+      solved-nothing p d c other none ∙ ap made (sym none))
+
+  -- With 0 in column p the row lies within the other columns.
+  pub within-apart : {f : Fraction} {nums₀ dens₀ nums₁ dens₁ : List ℤ} → Within set 0 nums₀ → f .num ≡ pos 0 → Stored p f nums₀ dens₀ nums₁ dens₁ → Within others 0 nums₁
+  within-apart {nums₀ = nums₀} {nums₁ = nums₁} within none stored = record { zero = λ c below out. rw zero-add (by c below out (ℕ-discrete c p)) }
+    where
+      by : (c : ℕ) → c < 64 → holds others c ≡ false → Dec (c ≡ p) → getD nums₁ c (pos 0) ≡ pos 0
+      by c below out (yes same) = ap (λ k. getD nums₁ k (pos 0)) same ∙ ap (λ x. x .num) (stored .here) ∙ none
+      by c below out (no other) =
+          let before : holds set c ≡ false = sym (without c ∙ ap (λ b. not b && holds set c) (ne-eqb c p other)) ∙ out in
+          ap (λ x. x .num) (stored .others c other) ∙ ap (λ k. getD nums₀ k (pos 0)) (sym (zero-add c)) ∙ within .zero c below before
+
+  -- What lies within the others lies within the set.
+  pub within-again : {nums : List ℤ} → Within others 0 nums → Within set 0 nums
+  within-again = within-more (λ c out. without c ∙ ap (λ b. not (eqb c p) && b) out ∙ and-false (not (eqb c p)))

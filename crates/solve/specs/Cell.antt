@@ -1,13 +1,12 @@
 -- One column of a solved form, from the numbers it is made of.
--- Main definition: `solvedCell`. Assumes nothing.
-use mathlib.Core.Bool.{cond}
+-- Main definition: `scaledColumn`. Assumes nothing.
 use Prim.Native.Nat.{ℕ}
-use lib.Dec.{eqb}
-use Rattle.fraction.specs.Exact.{ℚ, zeroℚ}
+use Rattle.fraction.specs.Exact.{ℚ}
 use Rattle.fraction.specs.Limits.{times}
-use Rattle.fraction.specs.Made.{Made, made}
+use Rattle.fraction.specs.Made.{Made}
+use Rattle.run.specs.Row.{Row, column}
 
--- Column c of the form solved for p, from a difference that holds x in column c. To divide by p's coefficient and to negate is to
--- multiply by one factor, the same in all columns.
-unfoldable pub solvedCell : (c p : ℕ) → (factor x : ℚ) → Made ℕ ℚ
-solvedCell c p factor x = cond (eqb c p) (made zeroℚ) (times factor x)
+-- Column c of a row d that is multiplied by a factor. To divide by the unknown's coefficient and to negate is to multiply by one
+-- factor, the same in all columns.
+unfoldable pub scaledColumn : (factor : ℚ) (d : Row) (c : ℕ) → Made ℕ ℚ
+scaledColumn factor d c = times factor (column d c)

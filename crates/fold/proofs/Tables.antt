@@ -1,13 +1,14 @@
 -- A fold of all rows, in a loop over them: the rows passed are folded, the others stand as they were.
--- Main definition: `Folding`. Main results: `folding-starts`, `folding-goes-on`, `folding-ends`, `folding-stops`. Assume nothing.
+-- Main definition: `Folding`. Main results: `passed-more`, `folding-starts`, `folding-goes-on`, `folding-passes`, `folding-ends`, `folding-stops`. Assume nothing.
 use mathlib.Core.Path.{_≡_, sym, ap, _∙_}
 use mathlib.Core.Logic.{inl, inr}
 use mathlib.Core.List.{List}
 use Prim.Native.Nat.{ℕ, _+_, _*_, _≤_, _<_}
 use native.Mathlib.Nat.{zero-add}
-use native.Mathlib.Decide.{ℕ-discrete}
+use native.Mathlib.Decide.{ℕ-discrete, decLt}
 use native.Mathlib.Omega.{arith}
-use lib.IntN.{ℤ}
+use lib.IntN.{ℤ, pos}
+use lib.ListN.{getD}
 use Rattle.fraction.specs.Made.{made, tab}
 use Rattle.fraction.proofs.Making.{tab-stopped}
 use Rattle.run.specs.Row.{TERMS, COLUMNS, Row, row, rowOf}
@@ -16,15 +17,27 @@ use Rattle.table.specs.declared.Step.{Step}
 use Rattle.table.specs.declared.Step.the-variants.{Done, Refused}
 use Rattle.table.specs.Held.{rowAt, tableAt, SoundTo, finished}
 use Rattle.table.specs.Loop.{Kept, RowMade}
-use Rattle.table.proofs.Columns.{row-held, table-length, kept-itself, kept-row, kept-within, kept-then, sound-beyond}
+use Rattle.table.proofs.Columns.{row-held, table-length, kept-itself, kept-row, kept-within, kept-then, sound-fewer, sound-beyond}
 use Rattle.table.proofs.Rows.{tab-listed}
+use Rattle.table.proofs.Sparse.{zero-numerator}
 use Rattle.table.proofs.Turns.{finished-done, finished-refused}
+use Rattle.fold.specs.Rows.{Passed}
+use Rattle.fold.proofs.Columns.{row-passed}
 
 -- the rows below t are folded as the rule folds the table at entry, nothing from row t on has changed, and all are sound
 pub record Folding (p : ℕ) (form : Row) (n t : ℕ) (nums₀ dens₀ nums dens : List ℤ) : Type 0 where
   pub kept : Kept 0 (65 * t) nums₀ dens₀ nums dens
   pub folded-below : (s : ℕ) → s < t → row (foldedColumn p form (rowOf (tableAt n nums₀ dens₀) s)) ≡ made (rowAt nums dens (65 * s))
   pub sound : SoundTo (65 * n) nums dens
+
+-- One row more holds 0 at p.
+pub passed-more : {n p from t : ℕ} {nums : List ℤ} → t < n → getD nums (65 * t + p) (pos 0) ≡ pos 0 → Passed n p from t nums → Passed n p from (t + 1) nums
+passed-more {p = p} {from} {t} {nums} below none passed =
+    record { forward = omega (arith, passed .forward); most = omega arith; nothing = λ s above less. by s above less (ℕ-discrete s t) }
+  where
+    by : (s : ℕ) → from ≤ s → s < t + 1 → Dec (s ≡ t) → getD nums (65 * s + p) (pos 0) ≡ pos 0
+    by s above less (yes same) = rw same none
+    by s above less (no other) = passed .nothing s above (omega arith)
 
 -- what a fold of all rows leaves
 abbrev pub Folded : (p : ℕ) (form : Row) (n : ℕ) (step : Step) (nums₀ dens₀ nums dens : List ℤ) → Type 0
@@ -78,6 +91,25 @@ module _ {p : ℕ} {form : Row} {n : ℕ} {nums₀ dens₀ : List ℤ} where
           (rw zero-add (finished-refused _ row-read refused)),
       (all-kept (65 * n) (omega arith), all-sound),
     )
+
+  -- Rows that hold 0 at p are their own folds: nothing is done, and they are folded.
+  pub folding-passes : (form-nums form-dens : List ℤ) → form ≡ rowAt form-nums form-dens 0 → p < 64 → {from r : ℕ} {nums dens : List ℤ} → Passed n p from r nums → Folding p form n from nums₀ dens₀ nums dens → Folding p form n r nums₀ dens₀ nums dens
+  unfolding finished COLUMNS TERMS
+  folding-passes form-nums form-dens is unknown {from} {r} {nums} {dens} passed folding =
+      record {
+        kept = kept-within (folding .kept) 0 (65 * r) (omega arith) (omega (arith, passed .forward));
+        folded-below = λ s below. by s below (decLt s from);
+        sound = folding .sound;
+      }
+    where
+      by : (s : ℕ) → s < r → Dec (s < from) → row (foldedColumn p form (rowOf (tableAt n nums₀ dens₀) s)) ≡ made (rowAt nums dens (65 * s))
+      by s below (yes before) = folding .folded-below s before
+      by s below (no after) =
+          let inside : s < n = omega (arith, passed .most) in
+          let none = zero-numerator (folding .sound .good (65 * s + p) (omega arith)) (passed .nothing s (omega arith) below) in
+          ap (λ r. row (foldedColumn p form r)) (row-held n nums₀ dens₀ s inside ∙ sym (kept-row (folding .kept) (65 * s) (inr (omega arith))))
+          ∙ ap (λ f. row (foldedColumn p f (rowAt nums dens (65 * s)))) is
+          ∙ row-passed p (65 * s) form-nums form-dens nums dens unknown none (sound-fewer (65 * s + 65) (omega arith) (folding .sound)) .ends
 
   -- All rows are folded: the table is.
   pub folding-ends : {t : ℕ} {nums dens : List ℤ} → t ≡ n → Folding p form n t nums₀ dens₀ nums dens → Folded p form n Done nums₀ dens₀ nums dens

@@ -1,2 +1,3 @@
 pub mod Cell
+pub mod Rows
 pub mod Sets

@@ -19,6 +19,7 @@ ghost use Rattle.table.specs.Sparse.{Within, Sparse, Stirred};
 ghost use Rattle.table.specs.declared.Step.the-variants.{Done};
 ghost use Rattle.fold.specs.Cell.{gainedBy, reached, gainedColumn};
 ghost use Rattle.fold.specs.Sets.{Noted, Turn};
+ghost use Rattle.fold.specs.Rows.{Passed};
 
 // The old number gains k times the form's: one product, one sum. Where the form holds 0 the number stands, and 1 time the form is
 // the form: both need no product.
@@ -152,6 +153,22 @@ fn fold_row(
     fold_columns(nums, dens, base, p, set, form_nums, form_dens)
 }
 
+// The next row from one on that holds p, or n: the rows before it have nothing to fold.
+fn next_row(nums: &[i32], n: usize, p: usize, from: usize) -> usize
+    requires { ⌜ (n ≤ 64) × (p < 64) × (from ≤ n) × (4160 ≤ length (now nums)) ⌝ }
+    ensures { λ r. ⌜ Passed n p from r (now (nums .entry)) ⌝ }
+{
+    let mut t = from;
+    while t < n {
+        let k = nums[COLUMNS * t + p];
+        if k != 0 {
+            return t;
+        }
+        t += 1;
+    }
+    t
+}
+
 // 01, Merge: "in each row with coefficient k there, that coefficient becomes 0, and each other column gains k times the solved
 // column". The form stands in the first 65 places of its two lists; its set holds p, and the columns where the form is not 0.
 pub fn fold_rows(
@@ -181,7 +198,7 @@ pub fn fold_rows(
     let mut t: usize = 0;
     while t < n {
         match fold_row(nums, dens, t, p, set, form_nums, form_dens, sets) {
-            Step::Done => t += 1,
+            Step::Done => t = next_row(nums, n, p, t + 1),
             Step::Refused(number) => return Step::Refused(number),
         }
     }

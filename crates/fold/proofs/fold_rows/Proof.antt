@@ -1,7 +1,7 @@
 -- `fold::fold_rows` meets its contract. The loop's invariant: the rows passed are folded, the others stand as they were, and the sets
 -- say what has happened so far.
 -- Assumes nothing.
-use mathlib.Core.Path.{_∙_}
+use mathlib.Core.Path.{refl, _∙_}
 use denote.Ref.{now}
 use Prim.Native.Nat.{_+_, _*_, _-_, _≤_}
 use native.Mathlib.Omega.{arith}
@@ -12,7 +12,7 @@ use Rattle.table.proofs.Sparse.{stirred-itself}
 use Rattle.table.proofs.Stirred.{stirred-then}
 use Rattle.table.proofs.Turns.{refused-not-done}
 use Rattle.fold.proofs.Sets.{turn-sparse, turn-stirred}
-use Rattle.fold.proofs.Tables.{Folding, folding-starts, folding-goes-on, folding-ends, folding-stops}
+use Rattle.fold.proofs.Tables.{Folding, folding-starts, folding-goes-on, folding-passes, folding-ends, folding-stops}
 use borrow.Author.Needs.{needs}
 use Rattle.fold.proofs.fold_rows.Statement.{statement}
 use Rattle.fold.proofs.fold_rows.Tie as tie
@@ -47,22 +47,35 @@ fold-row-requires c κs =
 enum-told : tie.Need-enum-told Inv-loop μ-loop
 enum-told c = search needs
 
-add-t : tie.Need-add-t Inv-loop μ-loop
-add-t c = search needs
+add-next-row : tie.Need-add-next-row Inv-loop μ-loop
+add-next-row c = search needs
+
+next-row-requires : tie.Need-next-row-requires Inv-loop μ-loop
+next-row-requires c κs =
+    let turn = c .before .before .before .before .before .before .before in
+    let test = turn .before .before .before .before in
+    let pre = test .before .before .before .pre in
+    (pre .0 .0, pre .0 .1, omega (arith, test .loop-test .taken), omega (arith, pre .0, test .before .loop .inv .1 .kept .nums-length, turn .fold-row .ensures .0 .kept .nums-length))
 
 loop-less : tie.Need-loop-less Inv-loop μ-loop
-loop-less c = search needs
+loop-less c =
+    let test = c .before .before .before .before .before .before .before .before .before .before .before .before in
+    omega (arith, c .next-row .ensures .forward, c .next-row .ensures .most, test .loop-test .taken)
 
 loop-again : tie.Need-loop-again Inv-loop μ-loop
 loop-again c =
-    let turn = c .before .before .before .before .before .before in
+    let passed = c .next-row .ensures in
+    let done = c .before .before .enum-told .given .1 in
+    let turn = c .before .before .before .before .before .before .before .before in
     let test = turn .before .before .before .before in
     let inv = test .before .loop .inv in
-    let pre = test .before .before .before .pre in
+    let start = test .before .before .before in
+    let a = start .args in
+    let pre = start .pre in
     let below = test .loop-test .taken in (
-      omega (arith, below),
-      folding-goes-on below (inv .1) (turn .fold-row .ensures .0) (c .enum-told .given .1),
-      turn-sparse below (pre .0 .0) (pre .0 .1) (pre .1 .1 .1 .1 .0) (pre .1 .1 .1 .1 .1 .0) (pre .1 .1 .1 .0) (sound-fewer _ (omega arith) (inv .1 .sound)) (turn .fold-row .ensures .0) (c .enum-told .given .1) (turn .fold-row .ensures .1) (inv .2),
+      passed .most,
+      folding-passes (now (a .form-nums)) (now (a .form-dens)) refl (pre .0 .1) passed (folding-goes-on below (inv .1) (turn .fold-row .ensures .0) done),
+      turn-sparse below (pre .0 .0) (pre .0 .1) (pre .1 .1 .1 .1 .0) (pre .1 .1 .1 .1 .1 .0) (pre .1 .1 .1 .0) (sound-fewer _ (omega arith) (inv .1 .sound)) (turn .fold-row .ensures .0) done (turn .fold-row .ensures .1) (inv .2),
       stirred-then (pre .0 .0) (inv .3) (turn-stirred below (pre .0 .0) (turn .fold-row .ensures .0 .kept) (turn .fold-row .ensures .1)),
     )
 
@@ -112,7 +125,8 @@ fold-rows-spec =
     loop-holds
     fold-row-requires
     enum-told
-    add-t
+    add-next-row
+    next-row-requires
     loop-less
     loop-again
     enum-known-number

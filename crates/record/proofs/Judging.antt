@@ -1,35 +1,37 @@
 -- The tests of a term record, as the code makes them.
--- Main results: `zeros-total`, `other-kinds`, `holds-unless`. Assume nothing.
+-- Main results: `and-came`, `zeros-from`, `other-kinds`, `holds-unless`, `sound-then`, `sound-else`, `sound-alone`, `sound-holds`, `unsound-faulty`. Assume nothing.
 use mathlib.Core.Path.{_≡_, refl, sym, ap, _∙_}
-use mathlib.Core.Bool.{Bool, true, false, _&&_, cond, and-true, and-assoc}
+use mathlib.Core.Bool.{Bool, true, false, _&&_, cond, and-true, and-assoc, true≢false}
+use mathlib.Core.Logic.{_⊎_, inl, inr}
 use mathlib.Core.List.{List, [], _∷_}
-use mathlib.Core.Option.{some, none}
-use Prim.Native.Nat.{ℕ, zero, suc, _+_, _-_, _<_, _≤_}
+use mathlib.Core.Option.{Option, some, none}
+use Prim.Native.Nat.{ℕ, suc, _-_, _<_, _≤_}
 use native.Mathlib.Omega.{arith}
-use native.Mathlib.Nat.{zero-add, le-of-suc-le-suc}
+use native.Mathlib.Nat.{le-of-suc-le-suc}
 use native.Mathlib.Decide.{decLt}
-use borrow.Author.Tests.{ne-eqb}
 use lib.Arith.{le-zero, le-of-le-suc-ne}
 use lib.Dec.{eqb, ltb}
 use Rattle.problem.specs.declared.Kind.{Kind}
+use Rattle.problem.specs.declared.Term.{Term}
 use Rattle.problem.specs.Record.{Fields, every, unless-faulty, kindOf}
-use Rattle.record.specs.Terms.{zeros, judged, Faultless, Holds}
+use Rattle.record.specs.declared.TermRead.{TermRead}
+use Rattle.record.specs.declared.TermRead.the-variants.{Sound, Faulty}
+use Rattle.record.specs.Terms.{zeros, below, judged, holdsKind, Faultless, Holds}
 
--- a sum, made from the left
-unfoldable pub totalFrom : ℕ → List ℕ → ℕ
-totalFrom a [] = a
-totalFrom a (x ∷ rest) = totalFrom (a + x) rest
+-- The second test is made where the first one holds.
+pub and-came : {Taken Left : Type 0} (a b r : Bool) → (Taken → a ≡ true) → (Left → a ≡ false) → (Taken × (r ≡ b)) ⊎ (Left × (r ≡ a)) → r ≡ (a && b)
+and-came a b r on off (inl (taken, e)) = e ∙ sym (ap (λ x. x && b) (on taken))
+and-came a b r on off (inr (left, e)) = e ∙ off left ∙ sym (ap (λ x. x && b) (off left))
 
-sum-zero : (a x : ℕ) → eqb a 0 && eqb x 0 ≡ eqb (a + x) 0
-sum-zero zero x = ap (λ n. eqb n 0) (sym (zero-add x))
-sum-zero (suc a) x = rw (ne-eqb (suc a) 0 (λ e. omega arith), ne-eqb (suc a + x) 0 (λ e. omega arith))
+-- tests for zero, made from the left
+unfoldable pub zerosFrom : Bool → List ℕ → Bool
+zerosFrom b [] = b
+zerosFrom b (x ∷ rest) = zerosFrom (b && eqb x 0) rest
 
--- Fields are all zero if their sum is.
-pub zeros-total : (a : ℕ) (rest : List ℕ) → zeros (a ∷ rest) ≡ eqb (totalFrom a rest) 0
-unfolding zeros every totalFrom
-zeros-total a [] = and-true (eqb a 0)
-zeros-total a (x ∷ rest) =
-    sym (and-assoc (eqb a 0) (eqb x 0) (zeros rest)) ∙ ap (λ b. b && zeros rest) (sum-zero a x) ∙ zeros-total (a + x) rest
+pub zeros-from : (b : Bool) (rest : List ℕ) → (b && zeros rest) ≡ zerosFrom b rest
+unfolding zeros every zerosFrom
+zeros-from b [] = and-true b
+zeros-from b (x ∷ rest) = sym (and-assoc b (eqb x 0) (zeros rest)) ∙ zeros-from (b && eqb x 0) rest
 
 past-table : (own : ℕ) (f : Fields) → ¬ (f .kind < 9) → kindOf own f ≡ none
 unfolding kindOf
@@ -62,3 +64,38 @@ holds-unless own unused inputs kind = go (every (λ x. eqb x 0) unused && every 
     go : (sound : Bool) → Holds (judged (cond sound (some kind) none)) (record { kind = kind })
     go true h = refl
     go false h = absurd (h refl)
+
+-- A record is sound whose unused fields are zero and whose inputs lie before it.
+module _ (own : ℕ) (unused inputs : List ℕ) (kind : Kind) where
+  sound-is : holdsKind (unless-faulty own unused inputs kind) ≡ (zeros unused && below own inputs)
+  unfolding holdsKind unless-faulty zeros below
+  sound-is = go (every (λ x. eqb x 0) unused && every (λ i. ltb i own) inputs)
+    where
+      go : (sound : Bool) → holdsKind (cond sound (some kind) none) ≡ sound
+      go true = refl
+      go false = refl
+
+  pub sound-then : {clear r : Bool} → clear ≡ zeros unused → clear ≡ true → r ≡ below own inputs → r ≡ holdsKind (unless-faulty own unused inputs kind)
+  sound-then is taken e = e ∙ sym (ap (λ b. b && below own inputs) (sym is ∙ taken)) ∙ sym sound-is
+
+  pub sound-else : {clear : Bool} → clear ≡ zeros unused → clear ≡ false → clear ≡ holdsKind (unless-faulty own unused inputs kind)
+  sound-else is left = left ∙ sym (ap (λ b. b && below own inputs) (sym is ∙ left)) ∙ sym sound-is
+
+pub sound-alone : (own : ℕ) (unused : List ℕ) (kind : Kind) {r : Bool} → r ≡ zeros unused → r ≡ holdsKind (unless-faulty own unused [] kind)
+unfolding below every
+sound-alone own unused kind e = e ∙ sym (and-true (zeros unused)) ∙ sym (sound-is own unused [] kind)
+
+-- What a record is told by whether it holds a term.
+pub sound-holds : (told : Option Kind) (term : Term) → holdsKind told ≡ true → Holds (judged told) term → Sound term ≡ judged told
+unfolding Holds Faultless judged holdsKind
+sound-holds none term e holds = absurd (true≢false (sym e))
+sound-holds (some kind) term e holds = sym (holds λ faulty. true≢false (ap isSound faulty))
+  where
+    isSound : TermRead → Bool
+    isSound (Sound t) = true
+    isSound Faulty = false
+
+pub unsound-faulty : (told : Option Kind) → holdsKind told ≡ false → Faulty ≡ judged told
+unfolding judged holdsKind
+unsound-faulty none e = refl
+unsound-faulty (some kind) e = absurd (true≢false e)

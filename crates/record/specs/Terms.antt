@@ -1,8 +1,8 @@
 -- What reading a term record answers.
 -- Main definitions: `termRead`, `Faultless`, `Holds`. Assumes nothing.
 use mathlib.Core.Path.{_≡_}
-use mathlib.Core.Bool.{Bool, _&&_, cond}
-use mathlib.Core.List.{List, [], _∷_}
+use mathlib.Core.Bool.{Bool, true, false}
+use mathlib.Core.List.{List}
 use mathlib.Core.Option.{Option, some, none}
 use Prim.Native.Nat.{ℕ, _+_, _*_}
 use lib.Dec.{eqb, ltb}
@@ -22,8 +22,10 @@ unfoldable pub judged : Option Kind → TermRead
 judged none = Faulty
 judged (some kind) = Sound (record { kind = kind })
 
-unfoldable pub checkedAs : (unused inputs : Bool) → Kind → TermRead
-checkedAs unused inputs kind = judged (cond (unused && inputs) (some kind) none)
+-- whether a record of these fields holds a term
+unfoldable pub holdsKind : Option Kind → Bool
+holdsKind none = false
+holdsKind (some kind) = true
 
 -- 01: "A record is faulty with kind 0 or 9 to 15, with a nonzero unused field or padding, or with an input not below its own
 -- number"; term t's record is 64 bits after the header and t records

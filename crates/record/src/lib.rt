@@ -12,7 +12,7 @@ ghost use lib.IntN.{pos};
 ghost use Rattle.problem.specs.Bits.{signed16};
 ghost use Rattle.problem.specs.Record.{scaled, kindOf};
 ghost use Rattle.fields.specs.Told.{told};
-ghost use Rattle.record.specs.Terms.{zeros, below, judged, checkedAs, termRead, Faultless, Holds};
+ghost use Rattle.record.specs.Terms.{zeros, below, judged, holdsKind, termRead, Faultless, Holds};
 ghost use Rattle.record.specs.declared.TermRead.the-variants.{Sound};
 
 pub enum TermRead {
@@ -61,8 +61,13 @@ fn all_zero(
 ) -> bool
     ensures { λ r. ⌜ r ≡ zeros (symbol ∷ input1 ∷ input2 ∷ input3 ∷ mantissa ∷ shift ∷ padding ∷ []) ⌝ }
 {
-    let inputs = symbol as u32 + input1 as u32 + input2 as u32 + input3 as u32;
-    inputs + mantissa as u32 + shift as u32 + padding as u32 == 0
+    symbol == 0
+        && input1 == 0
+        && input2 == 0
+        && input3 == 0
+        && mantissa == 0
+        && shift == 0
+        && padding == 0
 }
 
 fn below1(own: usize, input: u8) -> bool
@@ -91,149 +96,35 @@ fn below3(own: usize, first: u8, second: u8, third: u8) -> bool
     }
 }
 
-fn checked(unused: bool, inputs: bool, kind: Kind) -> TermRead
-    ensures { λ r. ⌜ r ≡ checkedAs unused inputs kind ⌝ }
-{
-    if unused {
-        if inputs {
-            return TermRead::Sound(Term { kind: kind });
-        }
-    }
-    TermRead::Faulty
-}
-
-fn variable(own: usize, f: Fields) -> TermRead
-    requires { ⌜ f .kind ≡ 1 ⌝ }
-    ensures { λ r. ⌜ r ≡ judged (kindOf own (told f)) ⌝ }
-{
-    let unused = all_zero(
-        0,
-        f.input1,
-        f.input2,
-        f.input3,
-        f.mantissa,
-        f.shift,
-        f.padding,
-    );
-    checked(unused, true, Kind::Variable { symbol: f.symbol })
-}
-
-fn constant(own: usize, f: Fields) -> TermRead
-    requires { ⌜ (f .kind ≡ 2) × (f .shift < 16) ⌝ }
-    ensures { λ r. ⌜ r ≡ judged (kindOf own (told f)) ⌝ }
-{
-    let unused = all_zero(f.symbol, f.input1, f.input2, f.input3, 0, 0, f.padding);
-    let value = fraction_of(f);
-    checked(unused, true, Kind::Constant { value: value })
-}
-
-fn gain(own: usize, f: Fields) -> TermRead
-    requires { ⌜ (f .kind ≡ 3) × (f .shift < 16) ⌝ }
-    ensures { λ r. ⌜ r ≡ judged (kindOf own (told f)) ⌝ }
-{
-    let unused = all_zero(f.symbol, 0, f.input2, f.input3, 0, 0, f.padding);
-    let inputs = below1(own, f.input1);
-    let factor = fraction_of(f);
-    let kind = Kind::Gain {
-        factor: factor,
-        input: f.input1 as usize,
-    };
-    checked(unused, inputs, kind)
-}
-
-fn sum(own: usize, f: Fields) -> TermRead
-    requires { ⌜ f .kind ≡ 4 ⌝ }
-    ensures { λ r. ⌜ r ≡ judged (kindOf own (told f)) ⌝ }
-{
-    let unused = all_zero(f.symbol, 0, 0, f.input3, f.mantissa, f.shift, f.padding);
-    let inputs = below2(own, f.input1, f.input2);
-    let kind = Kind::Sum {
-        left: f.input1 as usize,
-        right: f.input2 as usize,
-    };
-    checked(unused, inputs, kind)
-}
-
-fn difference(own: usize, f: Fields) -> TermRead
-    requires { ⌜ f .kind ≡ 5 ⌝ }
-    ensures { λ r. ⌜ r ≡ judged (kindOf own (told f)) ⌝ }
-{
-    let unused = all_zero(f.symbol, 0, 0, f.input3, f.mantissa, f.shift, f.padding);
-    let inputs = below2(own, f.input1, f.input2);
-    let kind = Kind::Difference {
-        left: f.input1 as usize,
-        right: f.input2 as usize,
-    };
-    checked(unused, inputs, kind)
-}
-
-fn lookup1(own: usize, f: Fields) -> TermRead
-    requires { ⌜ f .kind ≡ 6 ⌝ }
-    ensures { λ r. ⌜ r ≡ judged (kindOf own (told f)) ⌝ }
-{
-    let unused = all_zero(0, 0, f.input2, f.input3, f.mantissa, f.shift, f.padding);
-    let inputs = below1(own, f.input1);
-    let kind = Kind::Lookup1 {
-        symbol: f.symbol,
-        input: f.input1 as usize,
-    };
-    checked(unused, inputs, kind)
-}
-
-fn lookup2(own: usize, f: Fields) -> TermRead
-    requires { ⌜ f .kind ≡ 7 ⌝ }
-    ensures { λ r. ⌜ r ≡ judged (kindOf own (told f)) ⌝ }
-{
-    let unused = all_zero(0, 0, 0, f.input3, f.mantissa, f.shift, f.padding);
-    let inputs = below2(own, f.input1, f.input2);
-    let kind = Kind::Lookup2 {
-        symbol: f.symbol,
-        first: f.input1 as usize,
-        second: f.input2 as usize,
-    };
-    checked(unused, inputs, kind)
-}
-
-fn lookup3(own: usize, f: Fields) -> TermRead
-    requires { ⌜ f .kind ≡ 8 ⌝ }
-    ensures { λ r. ⌜ r ≡ judged (kindOf own (told f)) ⌝ }
-{
-    let unused = all_zero(0, 0, 0, 0, f.mantissa, f.shift, f.padding);
-    let inputs = below3(own, f.input1, f.input2, f.input3);
-    let kind = Kind::Lookup3 {
-        symbol: f.symbol,
-        first: f.input1 as usize,
-        second: f.input2 as usize,
-        third: f.input3 as usize,
-    };
-    checked(unused, inputs, kind)
-}
-
-fn by_kind(own: usize, f: Fields) -> TermRead
-    requires { ⌜ f .shift < 16 ⌝ }
-    ensures { λ r. ⌜ r ≡ judged (kindOf own (told f)) ⌝ }
+// Whether a record is sound: its fields by the table of kinds.
+fn judge(own: usize, f: Fields) -> bool
+    ensures { λ r. ⌜ r ≡ holdsKind (kindOf own (told f)) ⌝ }
 {
     let kind = f.kind;
     match kind {
-        1 => variable(own, f),
-        2 => constant(own, f),
-        3 => gain(own, f),
-        4 => sum(own, f),
-        5 => difference(own, f),
-        6 => lookup1(own, f),
-        7 => lookup2(own, f),
-        8 => lookup3(own, f),
-        _ => TermRead::Faulty,
+        1 => all_zero(
+            0,
+            f.input1,
+            f.input2,
+            f.input3,
+            f.mantissa,
+            f.shift,
+            f.padding,
+        ),
+        2 => all_zero(f.symbol, f.input1, f.input2, f.input3, 0, 0, f.padding),
+        3 => all_zero(f.symbol, 0, f.input2, f.input3, 0, 0, f.padding) && below1(own, f.input1),
+        4 => all_zero(f.symbol, 0, 0, f.input3, f.mantissa, f.shift, f.padding)
+            && below2(own, f.input1, f.input2),
+        5 => all_zero(f.symbol, 0, 0, f.input3, f.mantissa, f.shift, f.padding)
+            && below2(own, f.input1, f.input2),
+        6 => all_zero(0, 0, f.input2, f.input3, f.mantissa, f.shift, f.padding)
+            && below1(own, f.input1),
+        7 => all_zero(0, 0, 0, f.input3, f.mantissa, f.shift, f.padding)
+            && below2(own, f.input1, f.input2),
+        8 => all_zero(0, 0, 0, 0, f.mantissa, f.shift, f.padding)
+            && below3(own, f.input1, f.input2, f.input3),
+        _ => false,
     }
-}
-
-// The term with the number `own`, whose record lies within the bytes.
-pub fn read_term(bytes: &[u8], own: usize) -> TermRead
-    requires { ⌜ (own < 64) × (12 + 8 * own ≤ length (now bytes)) ⌝ }
-    ensures { λ r. ⌜ r ≡ termRead (now (bytes .entry)) own ⌝ }
-{
-    let f = read_fields(bytes, 4 + 8 * own);
-    by_kind(own, f)
 }
 
 // The kind that the fields of a record say, if it is not faulty.
@@ -275,6 +166,19 @@ fn told_kind(f: Fields) -> Kind
             third: f.input3 as usize,
         },
         _ => Kind::Variable { symbol: f.symbol },
+    }
+}
+
+// The term with the number `own`, whose record lies within the bytes.
+pub fn read_term(bytes: &[u8], own: usize) -> TermRead
+    requires { ⌜ (own < 64) × (12 + 8 * own ≤ length (now bytes)) ⌝ }
+    ensures { λ r. ⌜ r ≡ termRead (now (bytes .entry)) own ⌝ }
+{
+    let f = read_fields(bytes, 4 + 8 * own);
+    if judge(own, f) {
+        TermRead::Sound(Term { kind: told_kind(f) })
+    } else {
+        TermRead::Faulty
     }
 }
 

@@ -7,10 +7,6 @@ use Rattle.record.specs.Terms.{termRead, Holds}
 use borrow.Author.Needs.{needs}
 use Rattle.record.proofs.held_term.Statement.{statement}
 use Rattle.record.proofs.held_term.Tie as tie
-use Rattle.record.proofs.held_term.Reads as reads
-use Rattle.record.proofs.held_term.Lts as lts
-use Rattle.fields.proofs.read_fields.Reads as read-fields-reads
-use Rattle.record.proofs.told_kind.Reads as told-kind-reads
 
 mul-read-fields : tie.Need-mul-read-fields
 mul-read-fields c = search needs

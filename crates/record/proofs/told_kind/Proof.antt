@@ -8,9 +8,6 @@ use Rattle.record.proofs.Judging.{other-kinds, holds-unless}
 use borrow.Author.Needs.{needs}
 use Rattle.record.proofs.told_kind.Statement.{statement}
 use Rattle.record.proofs.told_kind.Tie as tie
-use Rattle.record.proofs.told_kind.Reads as reads
-use Rattle.record.proofs.told_kind.Lts as lts
-use Rattle.record.proofs.fraction_of.Reads as fraction-of-reads
 
 fraction-of-requires : tie.Need-fraction-of-requires
 fraction-of-requires c κs = search needs

@@ -1,5 +1,5 @@
 -- Loops that go from column to column of a set, and what the sets of a run say after a step.
--- Main results: `making-skips`, `zero-numerator`, `within-value`, `within-set`, `within-other`, `within-stores`, `within-more`, `within-left`, `within-right`, `within-all`, `stirred-itself`. Assume nothing.
+-- Main results: `making-skips`, `zero-numerator`, `within-value`, `within-set`, `within-other`, `within-stores`, `within-more`, `within-left`, `within-right`, `stirred-itself`. Assume nothing.
 use mathlib.Core.Path.{_≡_, refl, sym, ap, _∙_, subst}
 use mathlib.Core.Logic.{_⊎_, inl, inr, _≢_}
 use mathlib.Core.Bool.{Bool, true, false, _||_, false≢true}
@@ -17,7 +17,6 @@ use Rattle.fraction.specs.Exact.{ℚ, value, zeroℚ}
 use Rattle.fraction.specs.Made.{Made, made}
 use Rattle.arithmetic.specs.Values.{Good}
 use Rattle.arithmetic.proofs.Tests.{zero-value}
-use Rattle.bits.proofs.Digits.{holds-all}
 use Rattle.bits.specs.Sets.{holds, Next}
 use Rattle.table.specs.Held.{heldAt, SoundTo}
 use Rattle.table.specs.Loop.{Making}
@@ -90,10 +89,6 @@ module _ (a b : ℕ) {either base : ℕ} {nums : List ℤ} (union : (k : ℕ) �
 
   pub within-right : Within b base nums → Within either base nums
   within-right = within-more (λ c out. neither (holds a c) (holds b c) (sym (union c) ∙ out) .1)
-
--- Every row is within the set of all terms.
-pub within-all : (base : ℕ) (nums : List ℤ) → Within 18446744073709551615 base nums
-within-all base nums = record { zero = λ c below out. absurd (false≢true (sym out ∙ holds-all c below)) }
 
 -- Where nothing is done, nothing is stirred.
 pub stirred-itself : (n : ℕ) (nums dens : List ℤ) (sets : List ℕ) → Stirred n nums dens nums dens sets sets

@@ -40,18 +40,6 @@ fn same_function(heads: &[u16], i: usize, j: usize) -> bool
     head == heads[j]
 }
 
-// Whether two terms have equal rows, looked for in the columns of both.
-fn same_terms(nums: &[i32], dens: &[i32], n: usize, sets: &[u64], t: usize, u: usize) -> bool
-    requires { ⌜ (t < n) × (u < n) × (n ≤ 64) ⌝ }
-    requires { ⌜ (4160 ≤ length (now nums)) × (4160 ≤ length (now dens)) × (194 ≤ length (now sets)) ⌝ }
-    requires { ⌜ SoundTo (65 * n) (now nums) (now dens) ⌝ }
-    requires { ⌜ Sparse n (now nums) (now sets) ⌝ }
-    ensures { λ r. ⌜ r ≡ sameRow (tableAt n (now (nums .entry)) (now (dens .entry))) t u ⌝ }
-{
-    let set = bits::union(sets[t], sets[u]);
-    same_row(nums, dens, n, t, u, set)
-}
-
 // Whether the inputs of i and j at one place have equal rows. Unused places hold 0 on both sides.
 fn same_input(
     nums: &[i32],
@@ -72,7 +60,7 @@ fn same_input(
 {
     let t = inputs[3 * i + k] as usize;
     let u = inputs[3 * j + k] as usize;
-    same_terms(nums, dens, n, sets, t, u)
+    same_row(nums, dens, n, sets, t, u)
 }
 
 fn same_inputs(
@@ -125,7 +113,7 @@ fn is_due(
     if !same_inputs(nums, dens, n, inputs, sets, i, j) {
         return false;
     }
-    !same_terms(nums, dens, n, sets, i, j)
+    !same_row(nums, dens, n, sets, i, j)
 }
 
 // The open lookups that wait to be compared with those before them.

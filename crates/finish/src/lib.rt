@@ -44,8 +44,7 @@ pub fn with_rows(
     requires { ⌜ Sparse n (now nums) (now sets) ⌝ }
     ensures { λ r. ⌜ after (finished (judged (record { left = left; right = right }) (record { table = tableAt n (now (nums .entry)) (now (dens .entry)); solved = solved })) (tableAt n (now (nums .entry)) (now (dens .entry)))) (now (nums .entry)) (now (dens .entry)) ≡ leaves r (now (nums .exit)) (now (dens .exit)) ⌝ }
 {
-    let columns = bits::union(sets[left], sets[right]);
-    let same = same::same_row(nums, dens, n, left, right, columns);
+    let same = same::same_row(nums, dens, n, sets, left, right);
     fill::fill(nums, COLUMNS * n, PLACES, 0);
     ones_from(dens, n);
     if same {

@@ -12,7 +12,7 @@ ghost use Rattle.fraction.specs.Exact.{value, eqℚ};
 ghost use Rattle.arithmetic.specs.Values.{Good};
 ghost use Rattle.run.specs.Row.{COLUMNS, column, sameTo, sameRow};
 ghost use Rattle.table.specs.Held.{rowAt, tableAt, SoundTo};
-ghost use Rattle.table.specs.Sparse.{Within};
+ghost use Rattle.table.specs.Sparse.{Within, Sparse};
 
 // In lowest terms, equal fractions have the same two numbers.
 fn same_fraction(a: Fraction, b: Fraction) -> bool
@@ -73,7 +73,7 @@ fn differ_at(nums: &[i32], t: usize, u: usize, c: usize) -> bool
 
 // Whether terms t and u, of n, have equal rows. An unknown that is not solved stands in its own column, where the rows before
 // hold 0: the columns of t and u are looked at first. Both rows are 0 outside the set.
-pub fn same_row(nums: &[i32], dens: &[i32], n: usize, t: usize, u: usize, set: u64) -> bool
+fn same_in(nums: &[i32], dens: &[i32], n: usize, t: usize, u: usize, set: u64) -> bool
     requires { ⌜ (t < n) × (u < n) × (n ≤ 64) ⌝ }
     requires { ⌜ (4160 ≤ length (now nums)) × (4160 ≤ length (now dens)) ⌝ }
     requires { ⌜ SoundTo (65 * n) (now nums) (now dens) ⌝ }
@@ -90,4 +90,16 @@ pub fn same_row(nums: &[i32], dens: &[i32], n: usize, t: usize, u: usize, set: u
         return false;
     }
     same_places(nums, dens, COLUMNS * t, COLUMNS * u, set)
+}
+
+// The same, where each row is 0 outside its own set.
+pub fn same_row(nums: &[i32], dens: &[i32], n: usize, sets: &[u64], t: usize, u: usize) -> bool
+    requires { ⌜ (t < n) × (u < n) × (n ≤ 64) ⌝ }
+    requires { ⌜ (4160 ≤ length (now nums)) × (4160 ≤ length (now dens)) × (194 ≤ length (now sets)) ⌝ }
+    requires { ⌜ SoundTo (65 * n) (now nums) (now dens) ⌝ }
+    requires { ⌜ Sparse n (now nums) (now sets) ⌝ }
+    ensures { λ r. ⌜ r ≡ sameRow (tableAt n (now (nums .entry)) (now (dens .entry))) t u ⌝ }
+{
+    let set = bits::union(sets[t], sets[u]);
+    same_in(nums, dens, n, t, u, set)
 }

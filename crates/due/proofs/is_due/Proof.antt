@@ -38,15 +38,15 @@ returns-2 c = λ terms lookups.
     sym (due-alike terms _ _ _ lookups _ _ _ (search needs) (search needs) (sym (alike-is first terms lookups) ∙ not-false (first .same-function .result) (c .before .before .if1 .left))
     ∙ ap (λ b. b && not (sameRow (tableAt (args .n) (args .nums .now) (args .dens .now)) (args .i) (args .j))) (sym (test .ensures) ∙ not-true (test .result) (c .if2 .taken)))
 
-same-terms-requires : tie.Need-same-terms-requires
-same-terms-requires c κs = search needs
+same-row-requires : tie.Need-same-row-requires
+same-row-requires c κs = search needs
 
 returns-3 : tie.Need-returns-3
 returns-3 c = λ terms lookups.
     let first = c .before .before .before .before in
     let args = first .before .before .before .before .args in
     let test = c .before .before .same-inputs in
-    ap not (c .same-terms .ensures)
+    ap not (c .same-row .ensures)
     ∙ sym (due-alike terms _ _ _ lookups _ _ _ (search needs) (search needs) (sym (alike-is first terms lookups) ∙ not-false (first .same-function .result) (c .before .before .before .if1 .left))
     ∙ ap (λ b. b && not (sameRow (tableAt (args .n) (args .nums .now) (args .dens .now)) (args .i) (args .j))) (sym (test .ensures) ∙ not-false (test .result) (c .before .if2 .left)))
 
@@ -58,5 +58,5 @@ is-due-spec =
     returns
     same-inputs-requires
     returns-2
-    same-terms-requires
+    same-row-requires
     returns-3)

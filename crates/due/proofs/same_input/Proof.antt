@@ -30,8 +30,8 @@ shared-slice-read-u c = search needs
 cast-u : tie.Need-cast-u
 cast-u c = omega (arith, c .shared-slice-known4 .given (3 * c .before .before .before .before .args .j + c .before .before .before .before .args .k))
 
-same-terms-requires : tie.Need-same-terms-requires
-same-terms-requires c κs =
+same-row-requires : tie.Need-same-row-requires
+same-row-requires c κs =
     let start = c .before .before .before .before in
     let rest = start .pre .1 .1 in
     let below = rest .1 .0 .below in
@@ -41,7 +41,7 @@ same-terms-requires c κs =
 
 returns : tie.Need-returns
 unfolding sameInput
-returns c = c .same-terms .ensures
+returns c = c .same-row .ensures
 
 pub same-input-spec : {M : Type 1} → statement M
 same-input-spec =
@@ -55,5 +55,5 @@ same-input-spec =
     add-u
     shared-slice-read-u
     cast-u
-    same-terms-requires
+    same-row-requires
     returns)

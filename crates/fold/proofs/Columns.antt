@@ -1,5 +1,5 @@
 -- A column that a fold of a row comes to: the three numbers that it reads, from the lists as they are then.
--- Main results: `column-gained`, `column-stands`, `row-folded`, `row-passed`. Assume nothing.
+-- Main results: `column-gained`, `column-unmoved`, `column-stands`, `row-folded`, `row-passed`. Assume nothing.
 use mathlib.Core.Path.{_≡_, refl, sym, ap, ap₂, _∙_}
 use mathlib.Core.Logic.{inr}
 use mathlib.Core.Bool.{true, false, not, _&&_, false≢true}
@@ -15,6 +15,7 @@ use Rattle.bits.specs.Sets.{holds}
 use Rattle.fraction.specs.declared.Fraction.{Fraction}
 use Rattle.fraction.specs.Exact.{ℚ, value, zeroℚ}
 use Rattle.fraction.specs.Made.{Made, made}
+use Rattle.arithmetic.specs.Values.{Good}
 use Rattle.run.specs.Row.{TERMS, COLUMNS, column}
 use Rattle.run.specs.Merge.{foldedColumn}
 use Rattle.table.specs.declared.Step.{Step}
@@ -35,6 +36,12 @@ unfolding gainedColumn COLUMNS TERMS
 column-gained form-nums form-dens k {base} {c = c} {nums₀ = nums₀} {dens₀} making below formed before =
     ap₂ (gainedBy (value k)) (ap value formed ∙ sym (column-first form-nums form-dens c below))
     (ap value (before ∙ making .kept .outside (base + c) (inr (omega arith))) ∙ sym (column-held nums₀ dens₀ base c below))
+
+-- Where the form holds 0, the column stands.
+pub column-unmoved : (form-nums form-dens nums₀ dens₀ : List ℤ) (k : ℚ) (base c : ℕ) {form : Fraction} → c < 65 → form ≡ heldAt form-nums form-dens c → value form ≡ zeroℚ → Good (heldAt nums₀ dens₀ (base + c)) → gainedColumn k (rowAt form-nums form-dens 0) (rowAt nums₀ dens₀ base) c ≡ made (value (heldAt nums₀ dens₀ (base + c)))
+unfolding gainedColumn COLUMNS TERMS
+column-unmoved form-nums form-dens nums₀ dens₀ k base c below formed none good =
+    ap₂ (gainedBy k) (column-first form-nums form-dens c below ∙ sym (ap value formed) ∙ none) (column-held nums₀ dens₀ base c below) ∙ gains-no-form k good
 
 module _ (p base : ℕ) (form-nums form-dens nums₀ dens₀ : List ℤ) (unknown : p < 64) where
   module _ {set : ℕ} (within : Within set 0 form-nums) (solved : holds set p ≡ true) (form-sound : SoundTo 65 form-nums form-dens) (sound : SoundTo (base + 65) nums₀ dens₀) where

@@ -21,17 +21,13 @@ ghost use Rattle.fold.specs.Cell.{gainedBy, reached, gainedColumn};
 ghost use Rattle.fold.specs.Sets.{Noted, Turn};
 ghost use Rattle.fold.specs.Rows.{Passed};
 
-// The old number gains k times the form's: one product, one sum. Where the form holds 0 the number stands, and 1 time the form is
-// the form: both need no product.
+// The old number gains k times the form's: one product, one sum. 1 time the form is the form: that needs no product.
 fn gained(k: Fraction, form: Fraction, old: Fraction) -> Made
     requires { ⌜ Good k ⌝ }
     requires { ⌜ Good form ⌝ }
     requires { ⌜ Good old ⌝ }
     ensures { λ r. ⌜ Answers r (gainedBy (value k) (value form) (value old)) ⌝ }
 {
-    if form.num == 0 {
-        return Made::Fits(old);
-    }
     if k.den == 1 {
         if k.num == 1 {
             return sums::sum(old, form);
@@ -43,7 +39,7 @@ fn gained(k: Fraction, form: Fraction, old: Fraction) -> Made
     }
 }
 
-// The columns of a set, and the constant's, of the row at base: each gains k times the form's.
+// The columns of a set, and the constant's, of the row at base: each gains k times the form's. Where the form holds 0 the number stands.
 fn gain_columns(
     nums: &mut [i32],
     dens: &mut [i32],
@@ -64,15 +60,15 @@ fn gain_columns(
     let mut c: usize = 0;
     while c < COLUMNS {
         let at = bits::first(rest);
+        rest = bits::rest(rest);
+        c = at + 1;
         let form = table::get(form_nums, form_dens, at);
-        let old = table::get(nums, dens, base + at);
-        match gained(k, form, old) {
-            Made::Fits(f) => {
-                table::put(nums, dens, base + at, f);
-                rest = bits::rest(rest);
-                c = at + 1;
+        if form.num != 0 {
+            let old = table::get(nums, dens, base + at);
+            match gained(k, form, old) {
+                Made::Fits(f) => table::put(nums, dens, base + at, f),
+                Made::Refused(number) => return Step::Refused(number),
             }
-            Made::Refused(number) => return Step::Refused(number),
         }
     }
     Step::Done

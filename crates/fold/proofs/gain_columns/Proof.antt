@@ -1,6 +1,6 @@
 -- `fold::gain_columns` meets its contract. The loop's invariant: the columns passed are those of the rule, the others stand as they were.
 -- Assumes nothing.
-use mathlib.Core.Path.{refl, sym, _∙_, subst}
+use mathlib.Core.Path.{_≡_, refl, sym, _∙_, subst}
 use Prim.Native.Nat.{_+_, _-_, _≤_}
 use native.Mathlib.Omega.{arith}
 use denote.Ref.{now}
@@ -8,13 +8,15 @@ use Rattle.bits.specs.Sets.{Next}
 use Rattle.bits.proofs.Taken.{From, from-starts, from-first, from-rest}
 use Rattle.fraction.specs.Exact.{value}
 use Rattle.arithmetic.specs.Values.{Good, Answers}
+use Rattle.arithmetic.proofs.Tests.{zero-value}
 use Rattle.run.specs.Row.{COLUMNS, TERMS}
 use Rattle.table.specs.Held.{rowAt}
 use Rattle.table.specs.Loop.{Making}
 use Rattle.table.proofs.Rows.{making-starts}
+use Rattle.table.proofs.Sparse.{making-skips}
 use Rattle.table.proofs.Turns.{turn-stores, turn-stops, turns-end}
 use Rattle.fold.specs.Cell.{reached, gainedColumn}
-use Rattle.fold.proofs.Columns.{column-gained}
+use Rattle.fold.proofs.Columns.{column-gained, column-unmoved}
 use Rattle.fold.proofs.Reached.{reached-next, reached-skips}
 use borrow.Author.Needs.{needs}
 use Rattle.fold.proofs.gain_columns.Statement.{statement}
@@ -53,8 +55,24 @@ skipped c =
     let a = c .before .before .before .args in
     reached-skips (gainedColumn (value (a .k)) (rowAt (now (a .form-nums)) (now (a .form-dens)) 0) (rowAt (now (a .nums)) (now (a .dens)) (a .base))) (next-found c) (c .before .before .loop .inv .1)
 
+rest-requires : tie.Need-rest-requires Inv-loop μ-loop
+rest-requires c κs = search needs
+
+-- the rest's rest is what is left of the set
+from-there : (c : tie.After-rest Inv-loop μ-loop) → From (c .before .before .before .before .args .set) (c .before .first .result + 1) (c .rest .result)
+from-there c = from-rest (omega arith) (c .before .before .before .loop .inv .2) (c .before .first .ensures) (c .rest .ensures)
+
+add-c : tie.Need-add-c Inv-loop μ-loop
+add-c c = search needs
+
 get-requires : tie.Need-get-requires Inv-loop μ-loop
 get-requires c κs = search needs
+
+-- what the form holds there is good
+form-good : (c : tie.After-get Inv-loop μ-loop) → Good (c .get .result)
+form-good c =
+    let first = c .before .before in
+    subst Good (sym (c .get .ensures)) (first .before .before .before .pre .1 .1 .1 .1 .good _ (omega (arith, first .first .ensures .most)))
 
 add-get : tie.Need-add-get Inv-loop μ-loop
 add-get c = search needs
@@ -64,28 +82,24 @@ get-requires-2 c κs = search needs
 
 gained-requires : tie.Need-gained-requires Inv-loop μ-loop
 gained-requires c κs =
-    let first = c .before .before .before .before in
+    let get = c .before .before .before .before .before .before in
+    let first = get .before .before in
     let loop = first .before .before .loop in
-    let start = first .before .before .before in (
-      start .pre .1 .1 .0,
-      (
-        subst Good (sym (c .before .before .before .get .ensures)) (start .pre .1 .1 .1 .1 .good _ (omega (arith, first .first .ensures .most))),
-        subst Good (sym (c .get2 .ensures)) (loop .inv .1 .sound .good _ (omega (arith, first .first .ensures .most))),
-      ),
-    )
+    (first .before .before .before .pre .1 .1 .0, (form-good get, subst Good (sym (c .get2 .ensures)) (loop .inv .1 .sound .good _ (omega (arith, first .first .ensures .most)))))
 
 -- what the turn answers is the rule's column
 cell-answers : (c : tie.After-gained Inv-loop μ-loop) →
-    let first = c .before .before .before .before .before in
+    let first = c .before .before .before .before .before .before .before .before .before in
     let a = first .before .before .before .args in
     let r = rowAt (now (a .nums)) (now (a .dens)) (a .base) in
     Answers (c .gained .result) (reached (a .set) (gainedColumn (value (a .k)) (rowAt (now (a .form-nums)) (now (a .form-dens)) 0) r) r (first .first .result))
 cell-answers c =
-    let first = c .before .before .before .before .before in
+    let get = c .before .before .before .before .before .before .before in
+    let first = get .before .before in
     let a = first .before .before .before .args in
     let r = rowAt (now (a .nums)) (now (a .dens)) (a .base) in
     subst (Answers (c .gained .result))
-    (column-gained (now (a .form-nums)) (now (a .form-dens)) (a .k) (skipped first) (omega (arith, first .first .ensures .most)) (c .before .before .before .before .get .ensures) (c .before .get2 .ensures)
+    (column-gained (now (a .form-nums)) (now (a .form-dens)) (a .k) (skipped first) (omega (arith, first .first .ensures .most)) (get .get .ensures) (c .before .get2 .ensures)
     ∙ sym (reached-next (a .set) (gainedColumn (value (a .k)) (rowAt (now (a .form-nums)) (now (a .form-dens)) 0) r) r (next-found first)))
     (c .gained .ensures)
 
@@ -94,39 +108,34 @@ enum-known-f c = search needs
 
 add-put : tie.Need-add-put Inv-loop μ-loop
 add-put c =
-    let first = c .before .before .before .before .before .before .before .before .before .before in
+    let first = c .before .before .before .before .before .before .before .before .before .before .before .before .before .before in
     omega (arith, first .first .ensures .most, first .before .before .before .pre .0)
 
 put-requires : tie.Need-put-requires Inv-loop μ-loop
 put-requires c κs =
-    let first = c .before .before .before .before .before .before .before .before .before .before in
+    let first = c .before .before .before .before .before .before .before .before .before .before .before .before .before .before in
     let pre = first .before .before .before .pre in
     let room = first .first .ensures .most in
     let kept = skipped first .kept in
     (omega (arith, room, pre .0, kept .nums-length), omega (arith, room, pre .0, kept .dens-length))
 
-rest-requires : tie.Need-rest-requires Inv-loop μ-loop
-rest-requires c κs = search needs
-
-add-c : tie.Need-add-c Inv-loop μ-loop
-add-c c = search needs
-
 loop-less : tie.Need-loop-less Inv-loop μ-loop
 loop-less c =
-    let first = c .before .before .before .before .before .before .before .before .before .before .before .before .before .before in
+    let first = c .before .before .before .before .before .before .before .before .before .before .before .before .before .before .before .before .before in
     omega (arith, next-found first .forward, first .first .ensures .most)
 
 loop-again : tie.Need-loop-again Inv-loop μ-loop
 loop-again c =
-    let put = c .before .before .before .put in
-    let turn = c .before .before .before .before .before .before .before .before .before in
-    let first = turn .before .before .before .before .before in
-    let loop = first .before .before .loop in
+    let put = c .before .before .put in
+    let turn = c .before .before .before .before .before .before .before .before in
+    let rest = turn .before .before .before .before .before .before .before .before in
+    let first = rest .before in
     let pre = first .before .before .before .pre in
+    let kept = skipped first .kept in
     let most = first .first .ensures .most in (
       omega (arith, most),
-      turn-stores (skipped first) (cell-answers turn) (c .before .before .before .before .before .before .before .f .given .1) refl (omega (arith, most, pre .0)) (omega (arith, most, pre .0)) (put .ensures .0) (put .ensures .1),
-      from-rest (omega (arith, first .before .loop-test .taken)) (loop .inv .2) (first .first .ensures) (c .rest .ensures),
+      turn-stores (skipped first) (cell-answers turn) (c .before .before .before .before .before .before .f .given .1) refl (omega (arith, most, pre .0, kept .nums-length)) (omega (arith, most, pre .0, kept .dens-length)) (put .ensures .0) (put .ensures .1),
+      from-there rest,
     )
 
 enum-known-number : tie.Need-enum-known-number Inv-loop μ-loop
@@ -142,8 +151,32 @@ returns : tie.Need-returns Inv-loop μ-loop
 unfolding COLUMNS TERMS
 returns c =
     let turn = c .before .before .before in
-    let first = turn .before .before .before .before .before in
+    let first = turn .before .before .before .before .before .before .before .before .before in
     turn-stops (skipped first) (cell-answers turn) (c .before .number .given .1) (omega (arith, first .first .ensures .most))
+
+loop-less-2 : tie.Need-loop-less-2 Inv-loop μ-loop
+loop-less-2 c =
+    let first = c .before .before .before .before .before in
+    omega (arith, next-found first .forward, first .first .ensures .most)
+
+loop-again-2 : tie.Need-loop-again-2 Inv-loop μ-loop
+loop-again-2 c =
+    let get = c .before .before .before in
+    let first = get .before .before in
+    let start = first .before .before .before in
+    let a = start .args in
+    let r = rowAt (now (a .nums)) (now (a .dens)) (a .base) in
+    let at = first .first .result in
+    let most = first .first .ensures .most in
+    let stands = reached-next (a .set) (gainedColumn (value (a .k)) (rowAt (now (a .form-nums)) (now (a .form-dens)) 0) r) r (next-found first)
+    ∙ column-unmoved (now (a .form-nums)) (now (a .form-dens)) (now (a .nums)) (now (a .dens)) (value (a .k)) (a .base) at (omega (arith, most)) (get .get .ensures) (zero-value (form-good get) (c .if1 .left)) (start .pre .1 .1 .1 .0 .good _ (omega (arith, most)))
+    in (
+      omega (arith, most),
+      making-skips (at + 1) (omega arith) (λ j above below.
+          let here : j ≡ at = omega arith in
+          rw here stands) (skipped first),
+      from-there (get .before),
+    )
 
 same-length-3 : tie.Need-same-length-3 Inv-loop μ-loop
 same-length-3 c = search needs
@@ -163,6 +196,8 @@ gain-columns-spec =
     μ-loop
     loop-holds
     first-requires
+    rest-requires
+    add-c
     get-requires
     add-get
     get-requires-2
@@ -170,14 +205,14 @@ gain-columns-spec =
     enum-known-f
     add-put
     put-requires
-    rest-requires
-    add-c
     loop-less
     loop-again
     enum-known-number
     same-length
     same-length-2
     returns
+    loop-less-2
+    loop-again-2
     same-length-3
     same-length-4
     returns-2)

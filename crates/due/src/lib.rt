@@ -116,20 +116,12 @@ fn is_due(
     !same_row(nums, dens, n, sets, i, j)
 }
 
-// The open lookups that wait to be compared with those before them.
-fn rights_open(sets: &[u64], waiting: &[u64]) -> u64
-    requires { ⌜ (194 ≤ length (now sets)) × (65 ≤ length (now waiting)) ⌝ }
-    ensures { λ r. ⌜ ((j : ℕ) → holds r j ≡ (holds (getD (now (waiting .entry)) 64 0) j && holds (openOf (now (sets .entry))) j)) ⌝ }
+// The open lookups of set k of those that wait: for a lookup k those to compare it with, for the last set the right sides.
+fn open_waiting(sets: &[u64], waiting: &[u64], k: usize) -> u64
+    requires { ⌜ (k < 65) × (194 ≤ length (now sets)) × (65 ≤ length (now waiting)) ⌝ }
+    ensures { λ r. ⌜ ((i : ℕ) → holds r i ≡ (holds (getD (now (waiting .entry)) k 0) i && holds (openOf (now (sets .entry))) i)) ⌝ }
 {
-    bits::common(waiting[RIGHTS], sets[OPEN])
-}
-
-// The open lookups that wait to be compared with j.
-fn lefts_open(sets: &[u64], waiting: &[u64], j: usize) -> u64
-    requires { ⌜ (j < 64) × (194 ≤ length (now sets)) × (65 ≤ length (now waiting)) ⌝ }
-    ensures { λ r. ⌜ ((i : ℕ) → holds r i ≡ (holds (getD (now (waiting .entry)) j 0) i && holds (openOf (now (sets .entry))) i)) ⌝ }
-{
-    bits::common(waiting[j], sets[OPEN])
+    bits::common(waiting[k], sets[OPEN])
 }
 
 // No lookup waits to be compared with j any more.
@@ -194,10 +186,10 @@ pub fn find_due(
     ensures { λ r. ⌜ ((terms : List Term) → Lookups terms n (now (heads .entry)) (now (inputs .entry)) → Watched (now (waiting .entry)) terms n (tableAt n (now (nums .entry)) (now (dens .entry))) (now (sets .entry)) → (due terms (tableAt n (now (nums .entry)) (now (dens .entry))) ≡ pairOf r) × Watched (now (waiting .exit)) terms n (tableAt n (now (nums .entry)) (now (dens .entry))) (now (sets .entry))) ⌝ }
     ensures { λ r. ⌜ Below n r ⌝ }
 {
-    let rights = rights_open(sets, waiting);
+    let rights = open_waiting(sets, waiting, RIGHTS);
     let mut j = bits::next(rights, 0);
     while j < n {
-        let lefts = lefts_open(sets, waiting, j);
+        let lefts = open_waiting(sets, waiting, j);
         match left_due(nums, dens, n, heads, inputs, sets, lefts, j) {
             Due::Pair { left, right } => return Due::Pair { left, right },
             Due::Closed => {

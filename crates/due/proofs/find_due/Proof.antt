@@ -29,8 +29,8 @@ Inv-loop nums dens n heads inputs sets waiting₀ rights j₀ waiting j =
 abbrev μ-loop : tie.MeasureT-loop
 μ-loop nums dens n heads inputs sets waiting₀ rights j₀ waiting j = n - j
 
-rights-open-requires : tie.Need-rights-open-requires Inv-loop μ-loop
-rights-open-requires c κs = search needs
+open-waiting-requires : tie.Need-open-waiting-requires Inv-loop μ-loop
+open-waiting-requires c κs = search needs
 
 next-requires : tie.Need-next-requires Inv-loop μ-loop
 next-requires c κs = search needs
@@ -38,13 +38,13 @@ next-requires c κs = search needs
 abbrev table-of : tie.Start Inv-loop μ-loop → Table
 table-of s = tableAt (s .args .n) (s .args .nums .now) (s .args .dens .now)
 
-abbrev start : tie.After-rights-open Inv-loop μ-loop → tie.Start Inv-loop μ-loop
+abbrev start : tie.After-open-waiting Inv-loop μ-loop → tie.Start Inv-loop μ-loop
 start r = r .before .before .before .before .before .before
 
 -- no open lookup waits for a right side that is passed over
-idle : (r : tie.After-rights-open Inv-loop μ-loop) {waiting : List ℕ} {from on : ℕ} → ((k : ℕ) → holds (getD waiting 64 0) k ≡ true → holds (getD (start r .args .waiting .now) 64 0) k ≡ true) → Next (r .rights-open .result) from on → (k : ℕ) → from ≤ k → k < on → (i : ℕ) → holds (openOf (start r .args .sets .now)) i ≡ true → holds (openOf (start r .args .sets .now)) k ≡ true → Waits waiting i k → ⊥
+idle : (r : tie.After-open-waiting Inv-loop μ-loop) {waiting : List ℕ} {from on : ℕ} → ((k : ℕ) → holds (getD waiting 64 0) k ≡ true → holds (getD (start r .args .waiting .now) 64 0) k ≡ true) → Next (r .open-waiting .result) from on → (k : ℕ) → from ≤ k → k < on → (i : ℕ) → holds (openOf (start r .args .sets .now)) i ≡ true → holds (openOf (start r .args .sets .now)) k ≡ true → Waits waiting i k → ⊥
 idle r fewer next k above short i left right waits =
-    false≢true (sym (next .none-between k above short) ∙ r .rights-open .ensures k ∙ ap₂ _&&_ (fewer k (waits .right)) right)
+    false≢true (sym (next .none-between k above short) ∙ r .open-waiting .ensures k ∙ ap₂ _&&_ (fewer k (waits .right)) right)
 
 loop-holds : tie.Need-loop-holds Inv-loop μ-loop
 loop-holds c =
@@ -55,8 +55,8 @@ loop-holds c =
           (watched, rights-passed watched (start r .pre .1 .1 .1 .1 .1 .1) 0 _ (idle r (λ k inside. inside) (c .next .ensures)) (λ k low. absurd (omega arith))),
     )
 
-lefts-open-requires : tie.Need-lefts-open-requires Inv-loop μ-loop
-lefts-open-requires c κs = let sized = c .before .before .loop .inv .0 in search needs
+open-waiting-requires-2 : tie.Need-open-waiting-requires-2 Inv-loop μ-loop
+open-waiting-requires-2 c κs = let sized = c .before .before .loop .inv .0 in search needs
 
 left-due-requires : tie.Need-left-due-requires Inv-loop μ-loop
 left-due-requires c κs =
@@ -73,7 +73,7 @@ same-length c = search needs
 abbrev head : tie.After-left-due Inv-loop μ-loop → tie.At-loop Inv-loop μ-loop
 head l = l .before .before .before .before
 
-abbrev rights : tie.At-loop Inv-loop μ-loop → tie.After-rights-open Inv-loop μ-loop
+abbrev rights : tie.At-loop Inv-loop μ-loop → tie.After-open-waiting Inv-loop μ-loop
 rights h = h .before .before
 
 -- the search among the lefts gives the pair due of this right side
@@ -83,7 +83,7 @@ left-is l terms lookups watched =
     let s = start (rights h) in
     let (still, nothing) = h .loop .inv .2 terms lookups watched in
     let below : h .loop .j < s .args .n = search needs in
-    left-watched still (s .pre .1 .1 .1 .1 .1 .1) (l .before .lefts-open .result) (h .loop .j) below (λ i left right waits. l .before .lefts-open .ensures i ∙ ap₂ _&&_ (waits .left) left) (λ k low. nothing k low (omega arith))
+    left-watched still (s .pre .1 .1 .1 .1 .1 .1) (l .before .open-waiting2 .result) (h .loop .j) below (λ i left right waits. l .before .open-waiting2 .ensures i ∙ ap₂ _&&_ (waits .left) left) (λ k low. nothing k low (omega arith))
     ∙ l .left-due .ensures .0 terms lookups
 
 returns : tie.Need-returns Inv-loop μ-loop
@@ -128,6 +128,7 @@ loop-again c =
     let r = rights h in
     let s = start r in
     let j = h .loop .j in
+    let below : j < s .args .n = search needs in
     let passed = p .pass .ensures in
     let fewer : (k : ℕ) → holds (getD (p .pass .last .0) 64 0) k ≡ true → holds (getD (s .args .waiting .now) 64 0) k ≡ true =
     λ k inside. h .loop .inv .1 k (and-eq-true-iff (not (eqb k j)) (holds (getD (h .loop .waiting) 64 0) k) .0 (sym (passed .rights k) ∙ inside) .1)
@@ -164,10 +165,10 @@ find-due-spec =
     (tie.spec
     Inv-loop
     μ-loop
-    rights-open-requires
+    open-waiting-requires
     next-requires
     loop-holds
-    lefts-open-requires
+    open-waiting-requires-2
     left-due-requires
     enum-known-left
     same-length

@@ -1,8 +1,8 @@
--- `due::lefts_open` meets its contract. Assumes nothing.
+-- `due::open_waiting` meets its contract. Assumes nothing.
 use borrow.Author.Needs.{needs}
 use Rattle.table.specs.Sparse.{openOf}
-use Rattle.due.proofs.lefts_open.Statement.{statement}
-use Rattle.due.proofs.lefts_open.Tie as tie
+use Rattle.due.proofs.open_waiting.Statement.{statement}
+use Rattle.due.proofs.open_waiting.Tie as tie
 
 mul-common : tie.Need-mul-common
 mul-common c = search needs
@@ -20,5 +20,5 @@ returns : tie.Need-returns
 unfolding openOf
 returns c = c .common .ensures
 
-pub lefts-open-spec : {M : Type 1} → statement M
-lefts-open-spec = tie.close (tie.spec mul-common shared-slice-read-common shared-slice-read-common-2 common-requires returns)
+pub open-waiting-spec : {M : Type 1} → statement M
+open-waiting-spec = tie.close (tie.spec mul-common shared-slice-read-common shared-slice-read-common-2 common-requires returns)

@@ -2,7 +2,7 @@
 use native.Mathlib.Omega.{arith}
 use borrow.Author.Needs.{needs}
 use Rattle.outcome.specs.Outcome.{PLACES}
-use Rattle.printed.proofs.Printed.{calls-print}
+use Rattle.agree.proofs.Printed.{calls-print}
 use Rattle.agree.proofs.list.Statement.{statement}
 use Rattle.agree.proofs.list.Tie as tie
 

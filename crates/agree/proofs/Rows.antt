@@ -23,7 +23,7 @@ use Rattle.listing.specs.Listing.{isFraction, allFractions, placesOf}
 use Rattle.places.specs.Listable.{Listable, rowHeld}
 use Rattle.places.proofs.Places.{places-length, places-at}
 use Rattle.pieces.proofs.Rows.{row-pieces-step}
-use Rattle.printed.proofs.Limits.{Limited}
+use Rattle.agree.proofs.Limits.{Limited}
 
 -- A fraction within the limits passes the test of a place,
 fraction-passes : (q : ℚ) → within q ≡ true → isFraction (q .num) (pos (q .den)) ≡ true

@@ -20,8 +20,8 @@ use Rattle.lines.specs.Leaves.{reachedOf, leaves, listFirst}
 use Rattle.row_line.proofs.Lines.{row-line-length}
 use Rattle.lines.proofs.Refused.{row-listed, first-listed}
 use Rattle.page.specs.Page.{rowsListed, behind, listRows, listPage}
-use Rattle.printed.proofs.Limits.{Limited}
-use Rattle.printed.proofs.Rows.{numeratorsOf, denominatorsOf, row-listable, row-line}
+use Rattle.agree.proofs.Limits.{Limited}
+use Rattle.agree.proofs.Rows.{numeratorsOf, denominatorsOf, row-listable, row-line}
 
 -- what is left where a place is reached
 reaching : (place : ℕ) → (buffer : List ℕ) → Listed

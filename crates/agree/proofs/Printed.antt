@@ -38,8 +38,8 @@ use Rattle.listing.specs.Line.{wordsOf, firstLine}
 use Rattle.listing.specs.Listing.{listed, listing, putAt, Listed}
 use Rattle.decimal.proofs.Decimal.{decimal-length}
 use Rattle.page.specs.Page.{rowsListed, endOf, pageOf, Paged}
-use Rattle.printed.proofs.Limits.{run-limited}
-use Rattle.printed.proofs.Pages.{put, first-alone, first-then-rows}
+use Rattle.agree.proofs.Limits.{run-limited}
+use Rattle.agree.proofs.Pages.{put, first-alone, first-then-rows}
 
 -- The answer of a run that stops has no rows,
 stopped-rows : (problem : Problem) (answer : Answer) (n : ℕ) → Ended (problem .terms) (problem .pairs) answer → rowsListed answer n ≡ 0

@@ -1,0 +1,5 @@
+mod Limits
+mod Rows
+mod Pages
+mod Printed
+mod Enough

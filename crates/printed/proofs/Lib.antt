@@ -1,5 +1,0 @@
-mod Limits
-mod Rows
-mod Pages
-pub mod Printed
-pub mod Enough

@@ -1,5 +1,5 @@
-//! What the program crates `run_cases` and `families` are run on and held to
-//! is what the programs of the same name here print.
+//! What the program crate `run_cases` is run on and held to is what the
+//! programs `run_cases` and `families` here print, one after the other.
 
 use std::path::Path;
 use std::process::Command;
@@ -10,20 +10,16 @@ fn printed(program: &str, what: &str) -> Vec<u8> {
     output.stdout
 }
 
-fn stored(name: &str, what: &str) -> Vec<u8> {
+fn stored(what: &str) -> Vec<u8> {
     let crates = Path::new(env!("CARGO_MANIFEST_DIR")).join("../../crates");
-    std::fs::read(crates.join(name).join(what)).unwrap()
+    std::fs::read(crates.join("run_cases").join(what)).unwrap()
 }
 
 #[test]
 fn stored_files_are_what_is_printed() {
-    let programs = [
-        ("run_cases", env!("CARGO_BIN_EXE_run_cases")),
-        ("families", env!("CARGO_BIN_EXE_families")),
-    ];
-    for (name, program) in programs {
-        for what in ["stdin", "stdout"] {
-            assert!(stored(name, what) == printed(program, what), "crates/{name}/{what}");
-        }
+    let programs = [env!("CARGO_BIN_EXE_run_cases"), env!("CARGO_BIN_EXE_families")];
+    for what in ["stdin", "stdout"] {
+        let both: Vec<u8> = programs.iter().flat_map(|program| printed(program, what)).collect();
+        assert!(stored(what) == both, "crates/run_cases/{what}");
     }
 }

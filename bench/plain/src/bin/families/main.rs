@@ -1,5 +1,5 @@
-//! What the program `families` reads, and what it has to write: `families
-//! stdin` and `families stdout`.
+//! The second part of what the program `run_cases` reads, and of what it has
+//! to write: `families stdin` and `families stdout`.
 //!
 //! A line that begins with `#` is a remark, and is written as it stands. A
 //! plain line is a problem in hexadecimal digits: its listing is written. A

@@ -1,5 +1,5 @@
-//! What the program `run_cases` reads, and what it has to write: `run_cases
-//! stdin` and `run_cases stdout`.
+//! The first part of what the program `run_cases` reads, and of what it has
+//! to write: `run_cases stdin` and `run_cases stdout`.
 //!
 //! A line that begins with `#` is a remark, and is written as it stands. Any
 //! other is a problem in hexadecimal digits, and its listing is written. A

@@ -1,9 +1,9 @@
--- `families::difference` ends: the places left fall by one at each turn. Assumes nothing.
+-- `run_cases::difference` ends: the places left fall by one at each turn. Assumes nothing.
 use Prim.Native.Nat.{_≤_, _-_}
 use lib.ListN.{length}
 use borrow.Author.Needs.{needs}
-use Rattle.families.proofs.difference.Statement.{statement}
-use Rattle.families.proofs.difference.Tie as tie
+use Rattle.run_cases.proofs.difference.Statement.{statement}
+use Rattle.run_cases.proofs.difference.Tie as tie
 
 abbrev Inv-loop : tie.InvT-loop
 Inv-loop one other k₀ k = k ≤ length one

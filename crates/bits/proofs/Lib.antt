@@ -1,6 +1,2 @@
 pub mod Digits
-pub mod Lowest
 pub mod Unique
-pub mod Onward
-pub mod Taken
-pub mod Downward

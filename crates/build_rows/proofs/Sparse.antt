@@ -14,7 +14,8 @@ use lib.Seq.{getD-set-same, getD-set-other}
 use lib.IntN.{ℤ, pos}
 use denote.Enum.Declared.{tagOf}
 use types.Run.{OneOf, miss}
-use Rattle.bits.specs.Sets.{holds, Next}
+use Rattle.bits.specs.Sets.{holds}
+use Rattle.ends.specs.Ends.{Next}
 use Rattle.fraction.specs.Exact.{ℚ, value, zeroℚ, _+ℚ_, _-ℚ_, _*ℚ_}
 use Rattle.fraction.specs.Limits.{tested, plus, minus, times}
 use Rattle.fraction.specs.Made.{Made, made}

@@ -134,7 +134,7 @@ fn built_row(kind: Kind, t: usize, columns: u64, nums: &mut [i32], dens: &mut [i
 {
     let mut c: usize = 0;
     while c < COLUMNS {
-        let at = bits::next(columns, c);
+        let at = ends::next(columns, c);
         match built_column(kind, t, at, nums, dens) {
             Made::Fits(f) => {
                 table::put(nums, dens, COLUMNS * t + at, f);

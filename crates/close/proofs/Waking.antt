@@ -10,8 +10,9 @@ use borrow.Author.Tests.{eq-eqb}
 use lib.Dec.{eqb}
 use lib.ListN.{length, getD, set, length-set}
 use lib.Seq.{getD-set-same, getD-set-other}
-use Rattle.bits.specs.Sets.{holds, Next}
+use Rattle.bits.specs.Sets.{holds}
 use Rattle.bits.proofs.Digits.{holds-none}
+use Rattle.ends.specs.Ends.{Next}
 use Rattle.table.specs.Sparse.{earlierOf, pendingOf, openOf}
 use Rattle.due.specs.Found.{Waits}
 use Rattle.close.specs.Woken.{isWoken, Grown, Woken}

@@ -49,11 +49,11 @@ pub(crate) fn wake(n: usize, sets: &mut [u64], waiting: &mut [u64])
         return;
     }
     let mut rest = sets[OPEN];
-    let mut j = bits::first(rest);
+    let mut j = ends::first(rest);
     while j < n {
         wake_right(sets, waiting, j);
-        rest = bits::rest(rest);
-        j = bits::first(rest);
+        rest = ends::rest(rest);
+        j = ends::first(rest);
     }
     sets[PENDING] = 0;
 }

@@ -11,8 +11,9 @@ use Rattle.fraction.specs.Exact.{value, zeroℚ}
 use Rattle.fraction.specs.Limits.{tested, minus}
 use Rattle.fraction.specs.Made.{made}
 use Rattle.fraction.proofs.Field.{minus-is-plus, plus-inverse}
-use Rattle.bits.specs.Sets.{holds, Next}
+use Rattle.bits.specs.Sets.{holds}
 use Rattle.bits.proofs.Digits.{holds-none}
+use Rattle.ends.specs.Ends.{Next}
 use Rattle.arithmetic.proofs.Tests.{zero-passes}
 use Rattle.run.specs.Row.{TERMS, COLUMNS, column}
 use Rattle.table.specs.Held.{heldAt, rowAt, SoundTo}

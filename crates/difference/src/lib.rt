@@ -1,5 +1,5 @@
 // The difference of two rows, in a row of its own. It goes only through the columns of a set, outside of which the rows hold 0, and
-// through the constant's, which `bits::first` comes to last.
+// through the constant's, which `ends::first` comes to last.
 use arithmetic::Made;
 use problem::COLUMNS;
 use table::Step;
@@ -35,13 +35,13 @@ pub fn difference(
     let mut rest = set;
     let mut c: usize = 0;
     while c < COLUMNS {
-        let at = bits::first(rest);
+        let at = ends::first(rest);
         let a = table::get(nums, dens, left + at);
         let b = table::get(nums, dens, right + at);
         match sums::difference(a, b) {
             Made::Fits(f) => {
                 table::put(d_nums, d_dens, at, f);
-                rest = bits::rest(rest);
+                rest = ends::rest(rest);
                 c = at + 1;
             }
             Made::Refused(number) => return Step::Refused(number),

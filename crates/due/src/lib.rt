@@ -155,13 +155,13 @@ fn left_due(
     ensures { λ r. ⌜ Below n r ⌝ }
 {
     let mut rest = lefts;
-    let mut i = bits::first(rest);
+    let mut i = ends::first(rest);
     while i < j {
         if is_due(nums, dens, n, heads, inputs, sets, i, j) {
             return Due::Pair { left: i, right: j };
         }
-        rest = bits::rest(rest);
-        i = bits::first(rest);
+        rest = ends::rest(rest);
+        i = ends::first(rest);
     }
     Due::Closed
 }
@@ -187,14 +187,14 @@ pub fn find_due(
     ensures { λ r. ⌜ Below n r ⌝ }
 {
     let rights = open_waiting(sets, waiting, RIGHTS);
-    let mut j = bits::next(rights, 0);
+    let mut j = ends::next(rights, 0);
     while j < n {
         let lefts = open_waiting(sets, waiting, j);
         match left_due(nums, dens, n, heads, inputs, sets, lefts, j) {
             Due::Pair { left, right } => return Due::Pair { left, right },
             Due::Closed => {
                 pass(waiting, j);
-                j = bits::next(rights, j + 1);
+                j = ends::next(rights, j + 1);
             }
         }
     }

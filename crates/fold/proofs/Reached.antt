@@ -13,7 +13,8 @@ use borrow.Author.Tests.{eq-eqb, ne-eqb}
 use lib.Dec.{eqb}
 use lib.IntN.{ℤ}
 use lib.ListN.{length, length-set, set as stored-at}
-use Rattle.bits.specs.Sets.{holds, Next}
+use Rattle.bits.specs.Sets.{holds}
+use Rattle.ends.specs.Ends.{Next}
 use Rattle.fraction.specs.declared.Fraction.{Fraction}
 use Rattle.fraction.specs.Exact.{ℚ, value, zeroℚ}
 use Rattle.fraction.specs.Made.{Made, made, _>>=_, tab}

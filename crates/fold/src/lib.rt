@@ -59,8 +59,8 @@ fn gain_columns(
     let mut rest = set;
     let mut c: usize = 0;
     while c < COLUMNS {
-        let at = bits::first(rest);
-        rest = bits::rest(rest);
+        let at = ends::first(rest);
+        rest = ends::rest(rest);
         c = at + 1;
         let form = table::get(form_nums, form_dens, at);
         if form.num != 0 {

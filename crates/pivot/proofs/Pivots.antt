@@ -9,7 +9,7 @@ use native.Mathlib.Decide.{decLt}
 use native.Mathlib.Omega.{arith}
 use borrow.Author.Tests.{lt-ltb}
 use lib.IntN.{ℤ}
-use Rattle.bits.specs.Sets.{Last}
+use Rattle.ends.specs.Ends.{Last}
 use Rattle.fraction.specs.Exact.{zeroℚ, eqℚ}
 use Rattle.fraction.proofs.Equality.{eqℚ-same}
 use Rattle.run.specs.Row.{Row, column}

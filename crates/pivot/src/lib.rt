@@ -24,14 +24,14 @@ pub fn pivot(d_nums: &[i32], d_dens: &[i32], set: u64) -> Found
     ensures { λ r. ⌜ rule.pivot byNumber TERMS (rowAt (now («d_nums» .entry)) (now («d_dens» .entry)) 0) ≡ pivoted r ⌝ }
     ensures { λ r. ⌜ FoundIn set r ⌝ }
 {
-    let mut end = bits::last(set, TERMS);
+    let mut end = ends::last(set, TERMS);
     while 0 < end {
         let c = end - 1;
         let f = table::get(d_nums, d_dens, c);
         if f.num != 0 {
             return Found::At(c);
         }
-        end = bits::last(set, c);
+        end = ends::last(set, c);
     }
     Found::Nothing
 }

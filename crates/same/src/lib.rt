@@ -53,12 +53,12 @@ fn same_places(nums: &[i32], dens: &[i32], left: usize, right: usize, set: u64) 
     if !same_at(nums, dens, left, right, TERMS) {
         return false;
     }
-    let mut c = bits::last(set, TERMS);
+    let mut c = ends::last(set, TERMS);
     while 0 < c {
         if !same_at(nums, dens, left, right, c - 1) {
             return false;
         }
-        c = bits::last(set, c - 1);
+        c = ends::last(set, c - 1);
     }
     true
 }

@@ -1,5 +1,5 @@
 // The form of the unknown that a difference solves, in the difference's place. It goes only through the columns of a set, outside of
-// which the difference holds 0, and through the constant's, which `bits::first` comes to last.
+// which the difference holds 0, and through the constant's, which `ends::first` comes to last.
 use arithmetic::Made;
 use fraction::Fraction;
 use problem::COLUMNS;
@@ -57,12 +57,12 @@ fn scale_columns(d_nums: &mut [i32], d_dens: &mut [i32], factor: Fraction, set: 
     let mut rest = set;
     let mut c: usize = 0;
     while c < COLUMNS {
-        let at = bits::first(rest);
+        let at = ends::first(rest);
         let x = table::get(d_nums, d_dens, at);
         match scaled(factor, x) {
             Made::Fits(f) => {
                 table::put(d_nums, d_dens, at, f);
-                rest = bits::rest(rest);
+                rest = ends::rest(rest);
                 c = at + 1;
             }
             Made::Refused(number) => return Step::Refused(number),

@@ -17,7 +17,8 @@ use Rattle.fraction.specs.Exact.{ℚ, value, zeroℚ}
 use Rattle.fraction.specs.Made.{Made, made}
 use Rattle.arithmetic.specs.Values.{Good}
 use Rattle.arithmetic.proofs.Tests.{zero-value}
-use Rattle.bits.specs.Sets.{holds, Next}
+use Rattle.bits.specs.Sets.{holds}
+use Rattle.ends.specs.Ends.{Next}
 use Rattle.table.specs.Held.{heldAt, SoundTo}
 use Rattle.table.specs.Loop.{Making}
 use Rattle.table.specs.Sparse.{Within, Stirred}

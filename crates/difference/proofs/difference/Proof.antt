@@ -6,9 +6,9 @@ use native.Mathlib.Nat.{zero-add}
 use native.Mathlib.Omega.{arith}
 use denote.Ref.{now}
 use Rattle.fraction.specs.Limits.{minus}
-use Rattle.bits.specs.Sets.{Next}
 use Rattle.bits.proofs.Digits.{holds-none}
-use Rattle.bits.proofs.Taken.{From, from-starts, from-first, from-rest}
+use Rattle.ends.specs.Ends.{Next}
+use Rattle.ends.proofs.Taken.{From, from-starts, from-first, from-rest}
 use Rattle.arithmetic.specs.Values.{Good, Answers}
 use Rattle.run.specs.Row.{COLUMNS, TERMS, column}
 use Rattle.table.specs.Held.{rowAt}

@@ -6,8 +6,8 @@ use mathlib.Core.Option.{some, none}
 use mathlib.Core.List.{List}
 use Prim.Native.Nat.{ℕ, _+_, _-_, _<_}
 use native.Mathlib.Omega.{arith}
-use Rattle.bits.specs.Sets.{Next}
-use Rattle.bits.proofs.Taken.{From, from-starts, from-first, from-here, from-rest}
+use Rattle.ends.specs.Ends.{Next}
+use Rattle.ends.proofs.Taken.{From, from-starts, from-first, from-here, from-rest}
 use Rattle.problem.specs.declared.Term.{Term}
 use Rattle.run.specs.Row.{Table}
 use Rattle.run.specs.Close.{first}

@@ -4,8 +4,8 @@ use mathlib.Core.Path.{_≡_, refl, sym, _∙_, subst}
 use Prim.Native.Nat.{_+_, _-_, _≤_}
 use native.Mathlib.Omega.{arith}
 use denote.Ref.{now}
-use Rattle.bits.specs.Sets.{Next}
-use Rattle.bits.proofs.Taken.{From, from-starts, from-first, from-rest}
+use Rattle.ends.specs.Ends.{Next}
+use Rattle.ends.proofs.Taken.{From, from-starts, from-first, from-rest}
 use Rattle.fraction.specs.Exact.{value}
 use Rattle.arithmetic.specs.Values.{Good, Answers}
 use Rattle.arithmetic.proofs.Tests.{zero-value}

@@ -5,7 +5,7 @@ use mathlib.Core.Path.{_≡_, sym, _∙_}
 use mathlib.Core.Bool.{Bool, _&&_}
 use Prim.Native.Nat.{ℕ, _-_, _≤_}
 use native.Mathlib.Omega.{arith}
-use Rattle.bits.specs.Sets.{Last}
+use Rattle.ends.specs.Ends.{Last}
 use Rattle.run.specs.Row.{TERMS, COLUMNS, sameTo}
 use Rattle.table.specs.Held.{rowAt}
 use Rattle.same.proofs.Equal.{same-step, same-skips, same-outside}

@@ -5,8 +5,8 @@ use Prim.Native.Nat.{_-_, _≤_}
 use native.Mathlib.Nat.{zero-add}
 use native.Mathlib.Omega.{arith}
 use denote.Ref.{now}
-use Rattle.bits.specs.Sets.{Next}
-use Rattle.bits.proofs.Taken.{From, from-starts, from-first, from-rest}
+use Rattle.ends.specs.Ends.{Next}
+use Rattle.ends.proofs.Taken.{From, from-starts, from-first, from-rest}
 use Rattle.fraction.specs.Exact.{value}
 use Rattle.arithmetic.specs.Values.{Good, Answers}
 use Rattle.run.specs.Row.{COLUMNS, TERMS}

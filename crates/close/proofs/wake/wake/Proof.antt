@@ -2,8 +2,8 @@
 use borrow.Author.Needs.{needs}
 use Prim.Native.Nat.{_+_, _-_, _<_}
 use native.Mathlib.Omega.{arith}
-use Rattle.bits.specs.Sets.{Next}
-use Rattle.bits.proofs.Taken.{From, from-starts, from-first, from-here, from-rest}
+use Rattle.ends.specs.Ends.{Next}
+use Rattle.ends.proofs.Taken.{From, from-starts, from-first, from-here, from-rest}
 use Rattle.table.specs.Sparse.{pendingOf, openOf}
 use Rattle.close.proofs.Waking.{Waking, grown-itself, waking-skips, waking-more, woken-ends, woken-idle}
 use Rattle.close.proofs.wake.wake.Statement.{statement}

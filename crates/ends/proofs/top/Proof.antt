@@ -1,9 +1,9 @@
--- `bits::top` meets its contract: the digits that are no zeros at the head. Assumes nothing.
+-- `ends::top` meets its contract: the digits that are no zeros at the head. Assumes nothing.
 use native.Mathlib.Omega.{arith}
 use lib.Count.{leading-le}
-use Rattle.bits.proofs.Downward.{top-last}
-use Rattle.bits.proofs.top.Statement.{statement}
-use Rattle.bits.proofs.top.Tie as tie
+use Rattle.ends.proofs.Downward.{top-last}
+use Rattle.ends.proofs.top.Statement.{statement}
+use Rattle.ends.proofs.top.Tie as tie
 
 cast-result : tie.Need-cast-result
 cast-result c = omega (arith, leading-le 64 (c .args .set))

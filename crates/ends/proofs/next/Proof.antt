@@ -1,9 +1,9 @@
--- `bits::next` meets its contract. Assumes nothing.
+-- `ends::next` meets its contract. Assumes nothing.
 use native.Mathlib.Omega.{arith}
 use borrow.Author.Needs.{needs}
-use Rattle.bits.proofs.Onward.{none-beyond, none-left, onward-most, found-onward}
-use Rattle.bits.proofs.next.Statement.{statement}
-use Rattle.bits.proofs.next.Tie as tie
+use Rattle.ends.proofs.Onward.{none-beyond, none-left, onward-most, found-onward}
+use Rattle.ends.proofs.next.Statement.{statement}
+use Rattle.ends.proofs.next.Tie as tie
 
 returns : tie.Need-returns
 returns c = none-beyond (c .before .args .set) (c .before .args .from) (c .if1 .taken)

@@ -5,8 +5,9 @@ use mathlib.Core.Bool.{false≢true}
 use Prim.Native.Nat.{ℕ, _+_, _-_, _/_, _^_, _<_, _≤_}
 use native.Mathlib.Decide.{decLt}
 use native.Mathlib.Omega.{arith}
-use Rattle.bits.specs.Sets.{holds, Least, Next}
+use Rattle.bits.specs.Sets.{holds}
 use Rattle.bits.proofs.Digits.{holds-none, holds-beyond, holds-shifted}
+use Rattle.ends.specs.Ends.{Least, Next}
 
 module _ (set from : ℕ) where
   -- From 64 on there is nothing below 64.

@@ -1,11 +1,11 @@
--- `bits::rest` meets its contract: a number less 1 has its lowest bit no more, and the bits above it. Assumes nothing.
+-- `ends::rest` meets its contract: a number less 1 has its lowest bit no more, and the bits above it. Assumes nothing.
 use mathlib.Core.Path.{sym, subst}
 use native.Mathlib.Omega.{arith}
 use borrow.Author.Needs.{needs}
-use Rattle.bits.specs.Sets.{Rest}
-use Rattle.bits.proofs.Taken.{least-taken, none-taken}
-use Rattle.bits.proofs.rest.Statement.{statement}
-use Rattle.bits.proofs.rest.Tie as tie
+use Rattle.ends.specs.Ends.{Rest}
+use Rattle.ends.proofs.Taken.{least-taken, none-taken}
+use Rattle.ends.proofs.rest.Statement.{statement}
+use Rattle.ends.proofs.rest.Tie as tie
 
 returns : tie.Need-returns
 returns c = subst (λ set. Rest set 0) (sym (c .if1 .taken)) none-taken

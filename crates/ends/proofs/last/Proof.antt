@@ -1,15 +1,15 @@
--- `bits::last` meets its contract. Assumes nothing.
+-- `ends::last` meets its contract. Assumes nothing.
 use mathlib.Core.Path.{sym, subst}
 use Prim.Native.Nat.{_-_, _^_, _<_}
 use native.Mathlib.Omega.{arith}
 use lib.Bits.{bitAnd}
 use lib.Pow.{pow-pos}
 use borrow.Author.Needs.{needs}
-use Rattle.bits.specs.Sets.{Last}
 use Rattle.bits.proofs.Digits.{one-shifted}
-use Rattle.bits.proofs.Downward.{last-below}
-use Rattle.bits.proofs.last.Statement.{statement}
-use Rattle.bits.proofs.last.Tie as tie
+use Rattle.ends.specs.Ends.{Last}
+use Rattle.ends.proofs.Downward.{last-below}
+use Rattle.ends.proofs.last.Statement.{statement}
+use Rattle.ends.proofs.last.Tie as tie
 
 top-requires : tie.Need-top-requires
 top-requires c κs = search needs

@@ -7,8 +7,9 @@ use native.Mathlib.Nat.{pow-suc}
 use native.Mathlib.Omega.{arith}
 use lib.Dec.{eqb}
 use lib.Count.{trailingZeros, under}
-use Rattle.bits.specs.Sets.{holds, Least}
+use Rattle.bits.specs.Sets.{holds}
 use Rattle.bits.proofs.Digits.{holds-zero, holds-suc}
+use Rattle.ends.specs.Ends.{Least}
 
 -- 0 is the least number in a set of an odd number.
 least-odd : (set : ℕ) → set % 2 ≡ 1 → Least set 0

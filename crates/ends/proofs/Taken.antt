@@ -8,11 +8,12 @@ use native.Mathlib.Omega.{arith}
 use borrow.Author.Tests.{eqb-true, eqb-false, eq-eqb, ne-eqb}
 use lib.Bits.{bitAnd}
 use lib.Dec.{eqb, eqb·suc-zero, eqb·suc-suc}
-use Rattle.bits.specs.Sets.{holds, Least, Next, Rest}
+use Rattle.bits.specs.Sets.{holds}
 use Rattle.bits.proofs.Digits.{holds-zero, holds-suc, holds-none, holds-and}
-use Rattle.bits.proofs.Lowest.{lowest}
-use Rattle.bits.proofs.Onward.{least-first}
-use Rattle.bits.proofs.Unique.{next-unique}
+use Rattle.ends.specs.Ends.{Least, Next, Rest}
+use Rattle.ends.proofs.Lowest.{lowest}
+use Rattle.ends.proofs.Onward.{least-first}
+use Rattle.ends.proofs.Unique.{next-unique}
 
 -- An odd number less 1 has the other digits that it had.
 odd-digits : (set : ℕ) → holds set 0 ≡ true → (k : ℕ) → (holds set k && holds (set - 1) k) ≡ (not (eqb k 0) && holds set k)

@@ -10,8 +10,9 @@ use lib.Bits.{bitAnd}
 use lib.Count.{leadingZeros, leading-length}
 use lib.Dec.{eqb}
 use lib.Pow.{pow-pos}
-use Rattle.bits.specs.Sets.{holds, Last}
+use Rattle.bits.specs.Sets.{holds}
 use Rattle.bits.proofs.Digits.{holds-and, holds-below, holds-beyond}
+use Rattle.ends.specs.Ends.{Last}
 
 -- A number of just so many binary digits has the highest of them.
 highest-inside : (set i : ℕ) → set < 2 ^ suc i → 2 ^ suc i ≤ 2 * set + 1 → holds set i ≡ true

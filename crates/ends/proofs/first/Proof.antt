@@ -1,11 +1,11 @@
--- `bits::first` meets its contract. Assumes nothing.
+-- `ends::first` meets its contract. Assumes nothing.
 use native.Mathlib.Omega.{arith}
 use mathlib.Core.Path.{_≡_, sym, subst}
 use borrow.Author.Needs.{needs}
-use Rattle.bits.specs.Sets.{Next}
-use Rattle.bits.proofs.Onward.{least-first, first-none}
-use Rattle.bits.proofs.first.Statement.{statement}
-use Rattle.bits.proofs.first.Tie as tie
+use Rattle.ends.specs.Ends.{Next}
+use Rattle.ends.proofs.Onward.{least-first, first-none}
+use Rattle.ends.proofs.first.Statement.{statement}
+use Rattle.ends.proofs.first.Tie as tie
 
 least-requires : tie.Need-least-requires
 least-requires c κs = search needs

@@ -1,9 +1,9 @@
--- `bits::least` meets its contract: the zeros below the lowest bit are as many as its number. Assumes nothing.
+-- `ends::least` meets its contract: the zeros below the lowest bit are as many as its number. Assumes nothing.
 use native.Mathlib.Omega.{arith}
 use lib.Count.{trailing-le}
-use Rattle.bits.proofs.Lowest.{lowest}
-use Rattle.bits.proofs.least.Statement.{statement}
-use Rattle.bits.proofs.least.Tie as tie
+use Rattle.ends.proofs.Lowest.{lowest}
+use Rattle.ends.proofs.least.Statement.{statement}
+use Rattle.ends.proofs.least.Tie as tie
 
 cast-result : tie.Need-cast-result
 cast-result c = omega (arith, trailing-le 64 (c .args .set))

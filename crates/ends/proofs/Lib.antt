@@ -1,0 +1,5 @@
+pub mod Lowest
+pub mod Unique
+pub mod Onward
+pub mod Taken
+pub mod Downward

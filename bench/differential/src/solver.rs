@@ -42,12 +42,39 @@ impl Solver {
     /// does not know or takes too long.
     pub fn word(&self, script: &str) -> io::Result<Option<u8>> {
         let output = self.output(script)?;
-        let answers: Vec<&str> = output.split_whitespace().collect();
-        Ok(match answers[..] {
-            ["unsat", "unsat"] => Some(2),
-            ["sat", "unsat"] => Some(0),
-            ["sat", "sat"] => Some(1),
-            _ => None,
-        })
+        Ok(word_of(&output.split_whitespace().collect::<Vec<&str>>()))
     }
+
+    /// The words' numbers for the scripts of several problems, put before one
+    /// process; before one for each problem if a word is missing then.
+    pub fn words(&self, scripts: &[&str]) -> io::Result<Vec<Option<u8>>> {
+        let output = self.output(&together(scripts))?;
+        let answers: Vec<&str> = output.split_whitespace().collect();
+        let words: Vec<Option<u8>> = answers.chunks(2).map(word_of).collect();
+        if words.len() == scripts.len() && words.iter().all(Option::is_some) {
+            return Ok(words);
+        }
+        scripts.iter().map(|script| self.word(script)).collect()
+    }
+}
+
+/// The word's number for a solver's answers to a problem's two questions.
+fn word_of(answers: &[&str]) -> Option<u8> {
+    match answers {
+        ["unsat", "unsat"] => Some(2),
+        ["sat", "unsat"] => Some(0),
+        ["sat", "sat"] => Some(1),
+        _ => None,
+    }
+}
+
+/// One script for several problems, each in a scope of its own.
+pub fn together(scripts: &[impl AsRef<str>]) -> String {
+    const LOGIC: &str = "(set-logic QF_UFLRA)\n";
+    let mut all = String::from(LOGIC);
+    for script in scripts.iter().map(AsRef::as_ref) {
+        let rest = script.strip_prefix(LOGIC).unwrap_or(script);
+        all.push_str(&format!("(push 1)\n{rest}(pop 1)\n"));
+    }
+    all
 }

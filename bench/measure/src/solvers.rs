@@ -3,7 +3,7 @@
 use crate::clock;
 use crate::timing::decide_once;
 use differential::sides::OURS;
-use differential::solver::Solver;
+use differential::solver::{together, Solver};
 use plain::smt;
 use std::io;
 use std::time::Duration;
@@ -37,15 +37,4 @@ pub fn times(solver: &Solver, problems: &[Vec<u8>]) -> io::Result<Times> {
     solver.output(&script)?;
     let together = (clock::of_children() - start) / PROBLEMS as u32;
     Ok(Times { each, together, agreed })
-}
-
-/// One script for several problems, each in a scope of its own.
-fn together(scripts: &[String]) -> String {
-    const LOGIC: &str = "(set-logic QF_UFLRA)\n";
-    let mut all = String::from(LOGIC);
-    for script in scripts {
-        let rest = script.strip_prefix(LOGIC).unwrap_or(script);
-        all.push_str(&format!("(push 1)\n{rest}(pop 1)\n"));
-    }
-    all
 }

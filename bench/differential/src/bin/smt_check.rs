@@ -34,6 +34,9 @@ const KINDS: [(&str, Generator, usize); 5] = [
 /// How many problems are taken of each kind about the limits.
 const ABOUT_A_LIMIT: usize = 60;
 
+/// How many problems are put before one process of a solver.
+const TOGETHER: usize = 20;
+
 /// How many problems an installed solver has to answer.
 const ANSWERED: usize = 1_000;
 
@@ -122,25 +125,32 @@ fn opinion(solver: &Solver, problems: &[Problem]) -> io::Result<Opinion> {
     })
 }
 
-/// Takes one problem after the other.
+/// Takes some problems at a time.
 fn ask(solver: &Solver, problems: &[Problem], next: &AtomicUsize) -> io::Result<Opinion> {
     let mut opinion = Opinion::default();
-    while let Some(problem) = problems.get(next.fetch_add(1, Ordering::Relaxed)) {
-        let word = WORDS[usize::from(problem.word)];
-        match solver.word(&problem.script)? {
-            None => opinion.unknown += 1,
-            Some(same) if same == problem.word => *opinion.agreed.entry(word).or_default() += 1,
-            Some(other) => {
-                let other = WORDS[usize::from(other)];
-                let line = format!("{}: {word}, {} says {other}", problem.name, solver.name);
-                opinion.disagreed.push(line);
-            }
+    while let Some(some) = problems.chunks(TOGETHER).nth(next.fetch_add(1, Ordering::Relaxed)) {
+        let scripts: Vec<&str> = some.iter().map(|problem| problem.script.as_str()).collect();
+        for (problem, word) in some.iter().zip(solver.words(&scripts)?) {
+            opinion.note(solver, problem, word);
         }
     }
     Ok(opinion)
 }
 
 impl Opinion {
+    fn note(&mut self, solver: &Solver, problem: &Problem, said: Option<u8>) {
+        let word = WORDS[usize::from(problem.word)];
+        match said {
+            None => self.unknown += 1,
+            Some(same) if same == problem.word => *self.agreed.entry(word).or_default() += 1,
+            Some(other) => {
+                let other = WORDS[usize::from(other)];
+                let line = format!("{}: {word}, {} says {other}", problem.name, solver.name);
+                self.disagreed.push(line);
+            }
+        }
+    }
+
     fn merge(&mut self, other: Opinion) {
         for (word, count) in other.agreed {
             *self.agreed.entry(word).or_default() += count;

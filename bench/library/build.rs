@@ -1,8 +1,10 @@
-//! Where the archive of the proved library stands: the folder named by
-//! `HAMZULAPH_STATICLIB`, or `target/staticlib` of the repository.
+//! Links the archive of the proved library: `libexport.a` in the folder named by
+//! `HAMZULAPH_STATICLIB`, or in `target/staticlib` of the repository. It is compiled for x86-64;
+//! for another processor the toolchain makes a program of it and `server.c`.
 
 use std::env;
-use std::path::PathBuf;
+use std::path::{Path, PathBuf};
+use std::process::Command;
 
 const VARIABLE: &str = "HAMZULAPH_STATICLIB";
 
@@ -14,8 +16,12 @@ fn main() {
     if !archive.exists() {
         panic!("there is no {}: run 'rt staticlib export'", archive.display());
     }
-    println!("cargo:rustc-link-search=native={}", folder.display());
-    println!("cargo:rustc-link-lib=static=export");
+    if env::var("CARGO_CFG_TARGET_ARCH").is_ok_and(|processor| processor == "x86_64") {
+        println!("cargo:rustc-link-search=native={}", folder.display());
+        println!("cargo:rustc-link-lib=static=export");
+    } else {
+        make_server(&archive);
+    }
 }
 
 fn folder() -> PathBuf {
@@ -23,4 +29,46 @@ fn folder() -> PathBuf {
         Some(folder) => PathBuf::from(folder),
         None => PathBuf::from(env!("CARGO_MANIFEST_DIR")).join("../../target/staticlib"),
     }
+}
+
+/// Compiles `server.c` and links it with the archive, as `rt` does with a program. `src/served.rs`
+/// is told where it stands, and the toolchain, which has the emulator.
+fn make_server(archive: &Path) {
+    println!("cargo:rerun-if-changed=server.c");
+    let own = toolchain().join("on").join(env::consts::ARCH);
+    let tools = own.join("toolchain");
+    let emulator = tools.join("bin/qemu-x86_64");
+    println!("cargo:rerun-if-changed={}", emulator.display());
+    if !emulator.exists() {
+        panic!("the library is for x86-64, and there is no emulator {}", emulator.display());
+    }
+    let out = PathBuf::from(env::var_os("OUT_DIR").expect("cargo names a folder"));
+    let (object, server) = (out.join("server.o"), out.join("server"));
+    let mut compile = Command::new(tools.join("bin/clang"));
+    compile.args(["--target=x86_64-linux-gnu", "-O2", "-Wall", "-c", "server.c", "-o"]);
+    run(compile.arg(&object));
+    let mut link = Command::new(own.join("bin/rattle-link"));
+    link.args(["--target", "x86_64-unknown-linux-gnu", "--toolchain"]).arg(&tools);
+    run(link.arg("-o").arg(&server).arg(&object).arg(archive));
+    println!("cargo:rustc-env=HAMZULAPH_SERVER={}", server.display());
+    println!("cargo:rustc-env=HAMZULAPH_TOOLS={}", tools.display());
+}
+
+fn run(command: &mut Command) {
+    let ended = command.status();
+    if !ended.as_ref().is_ok_and(|status| status.success()) {
+        panic!("{command:?}: {ended:?}");
+    }
+}
+
+/// The folder of the Rattle toolchain: `RATTLE_HOME`, or that of the `rt` on the PATH.
+fn toolchain() -> PathBuf {
+    println!("cargo:rerun-if-env-changed=RATTLE_HOME");
+    if let Some(folder) = env::var_os("RATTLE_HOME") {
+        return PathBuf::from(folder);
+    }
+    let path = env::var_os("PATH").unwrap_or_default();
+    let rt = env::split_paths(&path).find_map(|folder| folder.join("rt").canonicalize().ok());
+    let folder = rt.as_ref().and_then(|rt| rt.parent()?.parent());
+    folder.expect("the Rattle toolchain (the command 'rt') is not on the PATH").to_path_buf()
 }

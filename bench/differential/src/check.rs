@@ -3,7 +3,7 @@
 use crate::deciding::{self, Bench};
 use crate::inputs::{Family, BLOCK};
 use crate::lending::{Lists, Noise, ENOUGH, SHORT};
-use crate::listing::{self, fill_with_fractions, spoil, Pages, Request};
+use crate::listing::{self, fill_with_fractions, spoil, Asked, Pages, Request};
 use crate::sides::{Side, Told};
 use crate::tally::Tally;
 use plain::gen::Random;
@@ -73,24 +73,29 @@ impl<'n> Checker<'n> {
     /// some rows of other lists, a spoiled row, and a row that there is not.
     fn rows(&mut self, told: Told, random: &mut Random) -> Result<(), String> {
         let rows = if told.word <= 1 { 0..ROWS } else { 0..2 };
-        for row in rows {
-            self.row(Request::of_row(row, random), random)?;
-        }
-        self.row(Request::of_none(random), random)?;
+        let mut asked: Vec<Asked> =
+            rows.map(|row| self.asked(Request::of_row(row, random), random)).collect();
+        asked.push(self.asked(Request::of_none(random), random));
+        self.list(&asked)?;
         let row = random.below(ROWS);
         spoil(&mut self.bench.first, row, random);
-        let spoiled = self.row(Request::of_row(row, random), random);
+        let spoiled = self.list(&[self.asked(Request::of_row(row, random), random)]);
         // The second side's lists were the same and were not spoiled.
         self.bench.first.set(&self.bench.second);
         spoiled
     }
 
-    /// Compares the listing of one row of the first side's lists.
-    fn row(&mut self, request: Request, random: &mut Random) -> Result<(), String> {
-        let before = self.noise.buffer(request.length, random.bits());
-        let lists = &self.bench.first;
-        let listed = listing::compare(self.sides, lists, request, before, &mut self.pages)?;
-        self.tally.row(listed, request);
+    /// A request, with noise for its buffer.
+    fn asked(&self, request: Request, random: &mut Random) -> Asked<'n> {
+        (request, self.noise.buffer(request.length, random.bits()))
+    }
+
+    /// Compares the listing of rows of the first side's lists.
+    fn list(&mut self, asked: &[Asked]) -> Result<(), String> {
+        let listed = listing::compare(self.sides, &self.bench.first, asked, &mut self.pages)?;
+        for (&(request, _), listed) in asked.iter().zip(listed) {
+            self.tally.row(listed, request);
+        }
         Ok(())
     }
 
@@ -102,11 +107,11 @@ impl<'n> Checker<'n> {
             if random.chance(20) {
                 spoil(&mut self.bench.first, row, &mut random);
             }
-            for request in [Request::of_row(row, &mut random), Request::of_none(&mut random)] {
-                if let Err(what) = self.row(request, &mut random) {
-                    let bytes = self.bench.first.bytes();
-                    return Err(Fault { name: format!("lists-{index}"), bytes, what });
-                }
+            let requests = [Request::of_row(row, &mut random), Request::of_none(&mut random)];
+            let asked = requests.map(|request| self.asked(request, &mut random));
+            if let Err(what) = self.list(&asked) {
+                let bytes = self.bench.first.bytes();
+                return Err(Fault { name: format!("lists-{index}"), bytes, what });
             }
         }
         Ok(())

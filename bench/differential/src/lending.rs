@@ -89,11 +89,6 @@ impl Lists {
     pub fn lent_mut(&mut self, lengths: Lengths) -> (&mut [i32], &mut [i32]) {
         (&mut self.nums[..lengths.nums], &mut self.dens[..lengths.dens])
     }
-
-    /// The parts that are handed over.
-    pub fn lent(&self, lengths: Lengths) -> (&[i32], &[i32]) {
-        (&self.nums[..lengths.nums], &self.dens[..lengths.dens])
-    }
 }
 
 impl Default for Lists {

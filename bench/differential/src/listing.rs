@@ -1,7 +1,7 @@
-//! One row listed by both sides into the same buffer.
+//! Rows listed by both sides into the same buffers.
 
 use crate::lending::{Lengths, Lists, LONGEST, LONGEST_BUFFER, ROOM_BUFFER};
-use crate::sides::{Listed, Side};
+use crate::sides::{Line, Listed, Side};
 use plain::gen::Random;
 use plain::{COLUMNS, LINE, PLACES, ROWS};
 
@@ -49,6 +49,12 @@ impl Request {
     }
 }
 
+/// A request, and what its buffer holds before: noise, with a guard behind.
+pub type Asked<'n> = (Request, &'n [u8]);
+
+/// The most rows that are listed together: all of a table, and one more.
+const TOGETHER: usize = ROWS + 1;
+
 /// The buffers of one comparison, made once and used for one after the other.
 pub struct Pages {
     first: Vec<u8>,
@@ -58,7 +64,7 @@ pub struct Pages {
 impl Pages {
     /// Buffers of zeros.
     pub fn new() -> Pages {
-        Pages { first: vec![0; ROOM_BUFFER], second: vec![0; ROOM_BUFFER] }
+        Pages { first: vec![0; TOGETHER * ROOM_BUFFER], second: vec![0; TOGETHER * ROOM_BUFFER] }
     }
 }
 
@@ -68,18 +74,47 @@ impl Default for Pages {
     }
 }
 
-/// Lists a row with both sides, each into a copy of the same noise. Answers
+/// Lists rows with both sides, each into a copy of the same noise. Answers
 /// what both listed, or in what they differ.
 pub fn compare(
     sides: [Side; 2],
     lists: &Lists,
+    asked: &[Asked],
+    pages: &mut Pages,
+) -> Result<Vec<Listed>, String> {
+    let first = list(sides[0], lists, asked, &mut pages.first);
+    let second = list(sides[1], lists, asked, &mut pages.second);
+    let mut start = 0;
+    for (index, &(request, before)) in asked.iter().enumerate() {
+        let here = start..start + before.len();
+        let buffers = [&pages.first[here.clone()], &pages.second[here.clone()]];
+        compare_row(request, before, [first[index], second[index]], buffers)?;
+        start = here.end;
+    }
+    Ok(first)
+}
+
+/// Lists rows with one side, into one part of the page after the other.
+fn list(side: Side, lists: &Lists, asked: &[Asked], mut page: &mut [u8]) -> Vec<Listed> {
+    let mut lines = Vec::with_capacity(asked.len());
+    for (request, before) in asked {
+        let (buffer, rest) = page.split_at_mut(before.len());
+        buffer.copy_from_slice(before);
+        let buf = &mut buffer[..request.length];
+        let Lengths { nums: nums_len, dens: dens_len } = request.lengths;
+        lines.push(Line { buf, at: request.at, nums_len, dens_len, t: request.row });
+        page = rest;
+    }
+    side.list_rows(&mut lines, &lists.nums, &lists.dens)
+}
+
+/// Compares what both sides answered for a row, and their buffers.
+fn compare_row(
     request: Request,
     before: &[u8],
-    pages: &mut Pages,
-) -> Result<Listed, String> {
-    let (one, other) = (&mut pages.first[..before.len()], &mut pages.second[..before.len()]);
-    let first = list(sides[0], lists, request, before, one);
-    let second = list(sides[1], lists, request, before, other);
+    [first, second]: [Listed; 2],
+    [one, other]: [&[u8]; 2],
+) -> Result<(), String> {
     if first != second {
         return Err(format!("{request:?}: {first:?}, the other side {second:?}"));
     }
@@ -88,14 +123,7 @@ pub fn compare(
         return Err(format!("{request:?}: {first:?} of both, but {ours:?} and {others:?}"));
     }
     as_laid_down(first, request, before, one)
-        .map_err(|what| format!("{request:?}: {first:?}, but {what}"))?;
-    Ok(first)
-}
-
-fn list(side: Side, lists: &Lists, request: Request, before: &[u8], after: &mut [u8]) -> Listed {
-    after.copy_from_slice(before);
-    let (nums, dens) = lists.lent(request.lengths);
-    (side.list_row)(&mut after[..request.length], request.at, nums, dens, request.row)
+        .map_err(|what| format!("{request:?}: {first:?}, but {what}"))
 }
 
 /// The bytes of a line, as text.

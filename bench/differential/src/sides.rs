@@ -1,6 +1,6 @@
 //! The two sides of a comparison.
 
-pub use library::{Listed, Told};
+pub use library::{Line, ListRows, Listed, Told};
 use plain::Answer;
 
 /// Decides a problem over two lent lists.
@@ -16,13 +16,30 @@ pub struct Side {
     pub decide: Decide,
     /// How it lists a row.
     pub list_row: ListRow,
+    /// How it lists several rows together, if not one by one.
+    pub together: Option<ListRows>,
+}
+
+impl Side {
+    /// Lists several rows of two lists.
+    pub fn list_rows(&self, lines: &mut [Line], nums: &[i32], dens: &[i32]) -> Vec<Listed> {
+        if let Some(list_rows) = self.together {
+            return list_rows(lines, nums, dens);
+        }
+        let list_row = |line: &mut Line| {
+            let (nums, dens) = (&nums[..line.nums_len], &dens[..line.dens_len]);
+            (self.list_row)(line.buf, line.at, nums, dens, line.t)
+        };
+        lines.iter_mut().map(list_row).collect()
+    }
 }
 
 /// The proved library.
-pub const OURS: Side = Side { decide: library::decide, list_row: library::list_row };
+pub const OURS: Side =
+    Side { decide: library::decide, list_row: library::list_row, together: library::LIST_ROWS };
 
 /// The implementation in plain Rust.
-pub const PLAIN: Side = Side { decide: plain_decide, list_row: plain_list_row };
+pub const PLAIN: Side = Side { decide: plain_decide, list_row: plain_list_row, together: None };
 
 /// The words of an answer, by number.
 pub const WORDS: [&str; 4] = ["entailed", "not-entailed", "contradictory", "refused"];

@@ -1,36 +1,20 @@
 //! The proved library's C functions as Rust functions.
 //!
-//! `rt staticlib export` writes the archive that is linked. What the numbers
-//! mean is said in `crates/export`.
+//! `rt staticlib export` writes the archive that has them. What the numbers
+//! mean is said in `crates/export`. The archive is for x86-64 and is linked
+//! there; elsewhere a process of its own serves it.
 
 #![warn(missing_docs)]
 
-mod c {
-    extern "C" {
-        pub fn hamzulaph_decide(
-            bytes: *const u8,
-            bytes_len: usize,
-            nums: *mut i32,
-            nums_len: usize,
-            dens: *mut i32,
-            dens_len: usize,
-            number: *mut u8,
-            figure: *mut usize,
-        ) -> u8;
+#[cfg(target_arch = "x86_64")]
+mod linked;
+#[cfg(not(target_arch = "x86_64"))]
+mod served;
 
-        pub fn hamzulaph_list_row(
-            buf: *mut u8,
-            buf_len: usize,
-            at: usize,
-            nums: *const i32,
-            nums_len: usize,
-            dens: *const i32,
-            dens_len: usize,
-            t: usize,
-            number: *mut u8,
-        ) -> usize;
-    }
-}
+#[cfg(target_arch = "x86_64")]
+pub use linked::{decide, list_row, LIST_ROWS};
+#[cfg(not(target_arch = "x86_64"))]
+pub use served::{decide, list_row, LIST_ROWS};
 
 /// An answer in numbers.
 #[derive(Clone, Copy, PartialEq, Eq, Debug)]
@@ -52,42 +36,19 @@ pub struct Listed {
     pub place: usize,
 }
 
-/// Decides a problem. Both lists are left as document 01 says.
-pub fn decide(bytes: &[u8], nums: &mut [i32], dens: &mut [i32]) -> Told {
-    // What the call has to write over.
-    let (mut number, mut figure) = (0xA5, usize::MAX);
-    // SAFETY: each pointer is that of a slice or number lent for the call alone, with its length.
-    let word = unsafe {
-        c::hamzulaph_decide(
-            bytes.as_ptr(),
-            bytes.len(),
-            nums.as_mut_ptr(),
-            nums.len(),
-            dens.as_mut_ptr(),
-            dens.len(),
-            &mut number,
-            &mut figure,
-        )
-    };
-    Told { word, number, figure }
+/// A row that is listed together with others.
+pub struct Line<'a> {
+    /// The buffer.
+    pub buf: &'a mut [u8],
+    /// The place reached in it.
+    pub at: usize,
+    /// How many numerators are handed over.
+    pub nums_len: usize,
+    /// How many denominators are handed over.
+    pub dens_len: usize,
+    /// The row.
+    pub t: usize,
 }
 
-/// Lists row `t` of two lists into `buf` from place `at` on.
-pub fn list_row(buf: &mut [u8], at: usize, nums: &[i32], dens: &[i32], t: usize) -> Listed {
-    let mut number = 0xA5;
-    // SAFETY: as above.
-    let place = unsafe {
-        c::hamzulaph_list_row(
-            buf.as_mut_ptr(),
-            buf.len(),
-            at,
-            nums.as_ptr(),
-            nums.len(),
-            dens.as_ptr(),
-            dens.len(),
-            t,
-            &mut number,
-        )
-    };
-    Listed { number, place }
-}
+/// Lists several rows of two lists, each into a buffer of its own.
+pub type ListRows = fn(lines: &mut [Line], nums: &[i32], dens: &[i32]) -> Vec<Listed>;

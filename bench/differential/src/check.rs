@@ -62,17 +62,19 @@ impl<'n> Checker<'n> {
             let told = deciding::compare(self.sides, bytes, lengths, &mut self.bench)?;
             self.tally.decision(told, bytes);
             if lengths.suffice() {
-                self.rows(told, &mut random)?;
+                self.rows(told, bytes, &mut random)?;
                 return Ok(told);
             }
         }
         Err("no lengths were enough".to_string())
     }
 
-    /// Compares the listing of what a decision left: every row of a table,
-    /// some rows of other lists, a spoiled row, and a row that there is not.
-    fn rows(&mut self, told: Told, random: &mut Random) -> Result<(), String> {
-        let rows = if told.word <= 1 { 0..ROWS } else { 0..2 };
+    /// Compares the listing of what a decision left: the rows of a table's
+    /// terms and the one behind them, some rows of other lists, a spoiled row,
+    /// and a row that there is not.
+    fn rows(&mut self, told: Told, bytes: &[u8], random: &mut Random) -> Result<(), String> {
+        let behind = if told.word <= 1 { usize::from(bytes[0]) + 1 } else { 2 };
+        let rows = 0..behind.min(ROWS);
         let mut asked: Vec<Asked> =
             rows.map(|row| self.asked(Request::of_row(row, random), random)).collect();
         asked.push(self.asked(Request::of_none(random), random));

@@ -1,77 +1,93 @@
 -- One assumption: its sides merged, then closed.
--- Main results: `assumed-closed`, `assumed-contradicts`, `assumed-refuses`, `goes-ready`, `goes-awake`. Assume nothing.
-use mathlib.Core.Path.{_≡_, ap, _∙_, subst}
-use mathlib.Core.List.{List}
-use Prim.Native.Nat.{ℕ, _≤_}
-use lib.IntN.{ℤ}
+-- Main results: `assumes-same`, `assumes-more`, `same-closes`, `more-closes`, `assumes-contradicts`, `assumes-refuses`. Assume nothing.
+use mathlib.Core.Path.{_≡_, refl, ap, _∙_, subst}
+use mathlib.Core.List.{List, []}
+use Prim.Native.Nat.{ℕ, suc, _+_}
+use native.Mathlib.Omega.{arith}
 use Rattle.answer.specs.declared.Answer.the-variants.{Contradictory, Refused}
 use Rattle.fraction.specs.Made.{made, _>>=_, because}
-use Rattle.fraction.proofs.Making.{stopped-not-made}
 use Rattle.problem.specs.declared.Term.{Term}
-use Rattle.run.specs.Row.{Table}
-use Rattle.run.specs.Merge.{State, merge}
 use Rattle.run.specs.Close as rule
 use Rattle.run.specs.Run.{byNumber, ends}
-use Rattle.table.specs.Held.{tableAt}
-use Rattle.table.specs.Sparse.{Sparse, Stirred}
+use Rattle.table.specs.Work.{Work, tableOf}
+use Rattle.table.proofs.Columns.{kept-then}
 use Rattle.merge.specs.Outcome.{merged, Unstopped}
+use Rattle.merge.specs.Contract.{Hints, Merges}
 use Rattle.merge.specs.declared.Merged.{Merged}
 use Rattle.merge.specs.declared.Merged.the-variants.{Nothing, Solved, Contradiction as Clash, Refused as Outside}
-use Rattle.due.specs.Found.{Lookups, InputsBelow, Awake}
+use Rattle.due.specs.Found.{Lookups}
 use Rattle.close.specs.declared.Closed.{Closed}
-use Rattle.close.specs.Outcome.{closed}
-use Rattle.close.specs.Ready.{Ready}
+use Rattle.close.specs.Ready.{Resting}
+use Rattle.close.specs.Contract.{stateOf, Closable, Closes}
 use Rattle.close.proofs.Sets.{ready-merged, merged-awake}
-use Rattle.close.proofs.Turns.{stateAt}
 use Rattle.steps.specs.declared.Ran.{Ran}
 use Rattle.steps.specs.declared.Ran.the-variants.{Ended}
-use Rattle.steps.specs.Ran.{ran}
+use Rattle.steps.specs.Ran.{ran, AtMost, WhileGoing, Places}
+use Rattle.steps.proofs.Going.{open-going}
 use Rattle.assume.specs.Assumed.{assumed}
+use Rattle.assume.specs.Contract.{Assumable, Assumes}
 
-module _ (n place left right solved : ℕ) (nums₀ dens₀ nums dens : List ℤ) (answer : Merged) (merges : (before : ℕ) → merge byNumber left right (stateAt n nums₀ dens₀ before) ≡ merged answer before (tableAt n nums dens)) where
-  after : (to : Merged) → answer ≡ to → (terms : List Term) → assumed terms place left right (stateAt n nums₀ dens₀ solved) ≡ because (ends place) (merged to solved (tableAt n nums dens) >>= rule.close byNumber terms)
+module _ {n left right solved : ℕ} {heads inputs : List ℕ} {old mid : Work} {answer : Merged} (ready : Assumable n left right solved heads inputs old) (merges : Merges n left right answer old mid) where
+  after : (place : ℕ) (to : Merged) → answer ≡ to → (terms : List Term) → assumed terms place left right (stateOf n old solved) ≡ because (ends place) (merged to solved (tableOf n mid) >>= rule.close byNumber terms)
   unfolding assumed
-  after to is terms = ap (λ m. because (ends place) (m >>= rule.close byNumber terms)) (merges solved ∙ ap (λ m. merged m solved (tableAt n nums dens)) is)
+  after place to is terms = ap (λ m. because (ends place) (m >>= rule.close byNumber terms)) (merges .answers solved ∙ ap (λ m. merged m solved (tableOf n mid)) is)
 
-  -- The merge goes on, and closing gives what the assumption comes to.
-  pub assumed-closed : (nums′ dens′ : List ℤ) (to : Merged) → answer ≡ to → (count : ℕ) → merged to solved (tableAt n nums dens) ≡ made (stateAt n nums dens count) → (c : Closed) (r : Ran) → ((table : Table) → because (ends place) (closed c table) ≡ ran r table) → (terms : List Term) → rule.close byNumber terms (stateAt n nums dens count) ≡ closed c (tableAt n nums′ dens′) → assumed terms place left right (stateAt n nums₀ dens₀ solved) ≡ ran r (tableAt n nums′ dens′)
-  unfolding _>>=_
-  assumed-closed nums′ dens′ to is count goes-on c r placed terms closes =
-      after to is terms
-      ∙ ap (λ m. because (ends place) (m >>= rule.close byNumber terms)) goes-on
-      ∙ ap (because (ends place)) closes
-      ∙ placed _
+  -- Where the merge of the sides goes on, closing can begin.
+  module _ (to : Merged) (is : answer ≡ to) (count : ℕ) (goes-on : merged to solved (tableOf n mid) ≡ made (stateOf n mid count)) (hints : Hints n old mid) where
+    rests : Resting n heads inputs mid
+    rests =
+        let resting = ready .resting in
+        record {
+          ready = ready-merged (resting .ready) (merges .left) hints;
+          awake = record { watched = λ terms lookups. merged-awake left right solved count lookups (resting .ready .noted .below) (resting .ready .linked) (hints .stirred) (merges .answers solved ∙ ap (λ a. merged a solved (tableOf n mid)) is ∙ goes-on) (resting .awake .watched terms lookups) };
+        }
 
-  -- The merge contradicts, and so does the assumption.
-  pub assumed-contradicts : answer ≡ Clash → (terms : List Term) → assumed terms place left right (stateAt n nums₀ dens₀ solved) ≡ ran (Ended (Contradictory place)) (tableAt n nums dens)
-  unfolding merged _>>=_ because ends ran
-  assumed-contradicts is terms = after Clash is terms
+    -- Closing gives what the assumption comes to.
+    closes-on : {place : ℕ} {c : Closed} {r : Ran} {new : Work} → Closes n count heads inputs c mid new → Places place c (solved + 66) r → Assumes n place left right solved heads inputs r old new
+    unfolding _>>=_
+    closes-on {place} {c} {r} {new} closes places =
+        record {
+          answers = λ terms lookups.
+              after place to is terms
+              ∙ ap (λ m. because (ends place) (m >>= rule.close byNumber terms)) goes-on
+              ∙ ap (because (ends place)) (closes .answers terms lookups)
+              ∙ places .answers (tableOf n new);
+          stays = record { kept = kept-then (merges .left .kept) (closes .kept); sound = closes .sound; size = closes .size ∙ merges .left .size };
+          counted = places .counted;
+          resting = open-going (Resting n heads inputs new) places (closes .resting);
+        }
 
-  -- The merge is refused, and so is the assumption.
-  pub assumed-refuses : (number : ℕ) → answer ≡ Outside number → (terms : List Term) → assumed terms place left right (stateAt n nums₀ dens₀ solved) ≡ ran (Ended (Refused number place)) (tableAt n nums dens)
-  unfolding merged _>>=_ because ends ran
-  assumed-refuses number is terms = after (Outside number) is terms
+  hints-of : (to : Merged) → answer ≡ to → Unstopped to (Hints n old mid)
+  hints-of to is = subst (λ a. Unstopped a (Hints n old mid)) is (merges .left .hints)
 
--- A merge that goes on has not stopped.
-unstopped-on : {P : Type 0} (solved : ℕ) (table : Table) (state : State) (to : Merged) → merged to solved table ≡ made state → Unstopped to P → P
-unfolding merged Unstopped
-unstopped-on solved table state Nothing goes-on held = held
-unstopped-on solved table state Solved goes-on held = held
-unstopped-on solved table state Clash goes-on held = absurd (stopped-not-made goes-on)
-unstopped-on solved table state (Outside number) goes-on held = absurd (stopped-not-made goes-on)
+  one-more : merged Solved solved (tableOf n mid) ≡ made (stateOf n mid (solved + 1))
+  unfolding merged
+  one-more = let more : suc solved ≡ solved + 1 = omega arith in ap (λ k. made (stateOf n mid k)) more
 
-module _ (n left right solved count : ℕ) (heads inputs : List ℕ) (nums₀ dens₀ nums dens : List ℤ) (sets₀ sets : List ℕ) (few : n ≤ 64) (inputs-below : InputsBelow n inputs) (ready : Ready n nums₀ heads inputs sets₀)
-    (answer to : Merged) (is : answer ≡ to) (merges : (before : ℕ) → merge byNumber left right (stateAt n nums₀ dens₀ before) ≡ merged answer before (tableAt n nums dens))
-    (goes-on : merged to solved (tableAt n nums dens) ≡ made (stateAt n nums dens count)) (unstopped : Unstopped answer (Sparse n nums sets × Stirred n nums₀ dens₀ nums dens sets₀ sets)) where
-  noted : Sparse n nums sets × Stirred n nums₀ dens₀ nums dens sets₀ sets
-  noted =
-      unstopped-on solved (tableAt n nums dens) (stateAt n nums dens count) to goes-on
-      (subst (λ a. Unstopped a (Sparse n nums sets × Stirred n nums₀ dens₀ nums dens sets₀ sets)) is unstopped)
+  -- The merge does nothing, or solves one unknown more.
+  pub assumes-same : answer ≡ Nothing → Closable n solved heads inputs mid
+  unfolding merged Unstopped
+  assumes-same is = record { resting = rests Nothing is solved refl (hints-of Nothing is); few-solved = omega (arith, ready .few-solved) }
 
-  -- Where the merge of the sides goes on, the sets serve as before.
-  pub goes-ready : Ready n nums heads inputs sets
-  goes-ready = ready-merged few inputs-below ready (noted .0) (noted .1)
+  pub assumes-more : answer ≡ Solved → Closable n (solved + 1) heads inputs mid
+  unfolding Unstopped
+  assumes-more is = record { resting = rests Solved is (solved + 1) one-more (hints-of Solved is); few-solved = omega (arith, ready .few-solved) }
 
-  pub goes-awake : (terms : List Term) → Lookups terms n heads inputs → Awake terms n (tableAt n nums₀ dens₀) sets₀ → Awake terms n (tableAt n nums dens) sets
-  goes-awake terms lookups =
-      merged-awake left right solved count lookups inputs-below (ready .linked) (noted .1) (merges solved ∙ ap (λ a. merged a solved (tableAt n nums dens)) is ∙ goes-on)
+  pub same-closes : answer ≡ Nothing → {place : ℕ} {c : Closed} {r : Ran} {new : Work} → Closes n solved heads inputs c mid new → Places place c (solved + 66) r → Assumes n place left right solved heads inputs r old new
+  unfolding merged Unstopped
+  same-closes is = closes-on Nothing is solved refl (hints-of Nothing is)
+
+  pub more-closes : answer ≡ Solved → {place : ℕ} {c : Closed} {r : Ran} {new : Work} → Closes n (solved + 1) heads inputs c mid new → Places place c (solved + 66) r → Assumes n place left right solved heads inputs r old new
+  unfolding Unstopped
+  more-closes is = closes-on Solved is (solved + 1) one-more (hints-of Solved is)
+
+  -- The merge contradicts, or is refused, and so is the assumption.
+  pub assumes-contradicts : answer ≡ Clash → {place : ℕ} → Assumes n place left right solved heads inputs (Ended (Contradictory place)) old mid
+  unfolding merged _>>=_ because ends ran AtMost WhileGoing
+  assumes-contradicts is {place} =
+      record { answers = λ terms lookups. after place Clash is terms; stays = record { kept = merges .left .kept; sound = merges .left .sound; size = merges .left .size }; counted = tt; resting = tt }
+
+  pub assumes-refuses : {number : ℕ} → answer ≡ Outside number → {place : ℕ} → Assumes n place left right solved heads inputs (Ended (Refused number place)) old mid
+  unfolding merged _>>=_ because ends ran AtMost WhileGoing
+  assumes-refuses {number} is {place} =
+      record { answers = λ terms lookups. after place (Outside number) is terms; stays = record { kept = merges .left .kept; sound = merges .left .sound; size = merges .left .size }; counted = tt; resting = tt }

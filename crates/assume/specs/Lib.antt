@@ -1,1 +1,2 @@
 pub mod Assumed
+pub mod Contract

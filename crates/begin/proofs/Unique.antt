@@ -2,47 +2,41 @@
 -- Main result: `begin-unique`. Assumes nothing.
 use mathlib.Core.Path.{_≡_, sym, _∙_}
 use mathlib.Core.List.{List}
-use Prim.Native.Nat.{ℕ, _*_}
-use lib.IntN.{ℤ}
-use Rattle.fraction.specs.Made.{made}
-use Rattle.problem.specs.Problem.{Problem, decoded}
+use Prim.Native.Nat.{ℕ}
+use borrow.Fn.Kinds.{Dens, endedOf}
+use contract.Lifetimes.{Lfts}
+use denote.Triple.Clauses.{AtExit}
+use Rattle.table.specs.Work.{Work, tableOf}
 use Rattle.reader.specs.Held.{Held}
-use Rattle.run.specs.Run.{byNumber, begin}
-use Rattle.table.specs.Held.{tableAt}
-use Rattle.table.specs.Loop.{Kept}
-use Rattle.table.specs.Calls.{NotesKept}
 use Rattle.table.proofs.Determined.{table-determined, lists-determined}
 use Rattle.table.proofs.Unique.{calls-determined}
 use Rattle.steps.specs.declared.Ran.{Ran}
 use Rattle.steps.specs.declared.Ran.the-variants.{Going}
-use Rattle.steps.specs.Ran.{ran, WhileGoing, Prepared}
 use Rattle.steps.proofs.Unique.{ran-determined, going-determined}
 use Rattle.steps.proofs.Going.{going-holds}
+use Rattle.begin.specs.Contract.{Begins}
+use Rattle.begin.proofs.begin.Kinds.{ps, r}
+use Rattle.begin.proofs.begin.Reads.{Pre, Post}
 
--- What `begin` ensures.
-pub record Begun (bytes : List ℕ) (n : ℕ) (nums₀ dens₀ : List ℤ) (heads₀ inputs₀ : List ℕ) (r : Ran) (nums dens : List ℤ) (heads inputs sets : List ℕ) : Type 0 where
-  pub answers : (problem : Problem) → decoded bytes ≡ made problem → begin byNumber (problem .terms) ≡ ran r (tableAt n nums dens)
-  pub kept : Kept 0 (65 * n) nums₀ dens₀ nums dens
-  pub prepared : WhileGoing (Prepared bytes n nums dens heads inputs sets) r
-  pub notes : NotesKept n heads₀ inputs₀ heads inputs
+module _ {bytes : List ℕ} {n : ℕ} {x y : Ran} {heads₀ inputs₀ heads inputs heads′ inputs′ : List ℕ} {old new new′ : Work} (held : Held bytes) (first : Begins bytes n x heads₀ inputs₀ heads inputs old new) (second : Begins bytes n y heads₀ inputs₀ heads′ inputs′ old new′) where
+  answers-same : x ≡ y
+  answers-same = ran-determined x y (tableOf n new) (tableOf n new′) (first .answers (held .problem) (held .same)) (second .answers (held .problem) (held .same))
+
+  outcomes-same : (count : ℕ) → x ≡ Going count → (new .nums ≡ new′ .nums) × (new .dens ≡ new′ .dens) × (heads ≡ heads′) × (inputs ≡ inputs′)
+  outcomes-same count going =
+      let one = going-holds going (first .prepared) in
+      let other = going-holds (sym answers-same ∙ going) (second .prepared) in
+      let (nums-same, dens-same) =
+      lists-determined (first .kept) (second .kept) λ k above below.
+      table-determined n (one .resting .ready .rows .sound) (other .resting .ready .rows .sound) (going-determined x y (tableOf n new) (tableOf n new′) (first .answers (held .problem) (held .same)) (second .answers (held .problem) (held .same)) going) k below
+      in
+      let (heads-same, inputs-same) =
+      calls-determined (first .notes) (second .notes) (one .lookups (held .problem) (held .same) .calls) (other .lookups (held .problem) (held .same) .calls)
+      in
+      (nums-same, dens-same, heads-same, inputs-same)
 
 -- How far the run has come is fixed, and so are the rows and what is noted where it goes on; the sets are hints, of which any larger
 -- ones serve as well. (Where it has ended, the places of the n terms may hold anything: nothing reads them but what clears them.)
-pub begin-unique : {bytes : List ℕ} (n : ℕ) {r s : Ran} {nums₀ dens₀ nums dens nums′ dens′ : List ℤ} {heads₀ inputs₀ heads inputs heads′ inputs′ : List ℕ} (sets sets′ : List ℕ) → Held bytes → Begun bytes n nums₀ dens₀ heads₀ inputs₀ r nums dens heads inputs sets → Begun bytes n nums₀ dens₀ heads₀ inputs₀ s nums′ dens′ heads′ inputs′ sets′ → (r ≡ s) × ((count : ℕ) → r ≡ Going count → (nums ≡ nums′) × (dens ≡ dens′) × (heads ≡ heads′) × (inputs ≡ inputs′))
-begin-unique n {r} {s} {nums = nums} {dens} {nums′} {dens′} sets sets′ held first second =
-    let p = first .answers (held .problem) (held .same) in
-    let q = second .answers (held .problem) (held .same) in
-    let same = ran-determined r s (tableAt n nums dens) (tableAt n nums′ dens′) p q in (
-      same,
-      λ count going.
-          let one = going-holds going (first .prepared) in
-          let other = going-holds (sym same ∙ going) (second .prepared) in
-          let (nums-same, dens-same) =
-          lists-determined (first .kept) (second .kept) λ k above below.
-          table-determined n (one .sound) (other .sound) (going-determined r s (tableAt n nums dens) (tableAt n nums′ dens′) p q going) k below
-          in
-          let (heads-same, inputs-same) =
-          calls-determined (first .notes) (second .notes) (one .lookups (held .problem) (held .same) .calls) (other .lookups (held .problem) (held .same) .calls)
-          in
-          (nums-same, dens-same, heads-same, inputs-same),
-    )
+-- Said of the contract itself.
+pub begin-unique : (κs : Lfts 6) (a : Dens κs ps) (x y : Ran) (end end′ : AtExit (endedOf 6 ps r) κs) → Pre κs a → Post κs a x end → Post κs a y end′ → (x ≡ y) × ((count : ℕ) → x ≡ Going count → (end .1 .1 .0 .now ≡ end′ .1 .1 .0 .now) × (end .1 .1 .1 .0 .now ≡ end′ .1 .1 .1 .0 .now) × (end .1 .1 .1 .1 .0 .now ≡ end′ .1 .1 .1 .1 .0 .now) × (end .1 .1 .1 .1 .1 .0 .now ≡ end′ .1 .1 .1 .1 .1 .0 .now))
+begin-unique κs a x y end end′ ready first second = (answers-same (ready .held) first second, outcomes-same (ready .held) first second)

@@ -24,40 +24,47 @@ use Rattle.invariant.proofs.Keeps.{merge-keeps-equal}
 use Rattle.invariant.proofs.Meets.{merge-meets}
 use Rattle.invariant.proofs.Rows.{sameRows-equal}
 use Rattle.table.specs.Held.{tableAt}
-use Rattle.table.specs.Sparse.{Within, columnsOf, pendingOf, openOf, Sparse, Linked, Stirred}
+use Rattle.table.specs.Sparse.{Within, columnsOf, pendingOf, openOf, Linked, Stirred}
 use Rattle.due.specs.Found.{Lookups, InputsBelow, Twin, Shut, Waits, Looked, Finds, Watched, Awake}
 use Rattle.due.proofs.Heads.{due-heads}
 use Rattle.due.proofs.Twins.{rows-kept, shut-kept}
 use Rattle.due.proofs.Woken.{linked-kept, stirred-finds}
-use Rattle.close.specs.Ready.{Ready}
+use Rattle.table.specs.Work.{Work}
+use Rattle.merge.specs.declared.Merged.{Merged}
+use Rattle.merge.specs.Contract.{Hints, Left}
+use Rattle.close.specs.Ready.{withSets, Ready}
 use Rattle.close.specs.Woken.{Woken}
 
-module _ {n : ℕ} {heads inputs : List ℕ} (few : n ≤ 64) (inputs-below : InputsBelow n inputs) {nums : List ℤ} {sets : List ℕ} (ready : Ready n nums heads inputs sets) where
+module _ {n : ℕ} {heads inputs : List ℕ} {w : Work} (ready : Ready n heads inputs w) where
   -- A merge keeps the links, and notes the columns of the rows that it changes.
-  pub ready-merged : {dens nums′ dens′ : List ℤ} {sets′ : List ℕ} → Sparse n nums′ sets′ → Stirred n nums dens nums′ dens′ sets sets′ → Ready n nums′ heads inputs sets′
-  ready-merged sparse stirred =
+  pub ready-merged : {r : Merged} {new : Work} → Left n r w new → Hints n w new → Ready n heads inputs new
+  ready-merged left hints =
+      let rows = ready .rows in
+      let kept = left .kept in
       record {
-        size = stirred .same-length ∙ ready .size;
-        sparse = sparse;
-        linked = linked-kept few inputs-below (λ k low high. stirred .links k low (λ e. omega arith)) (ready .linked);
+        rows = record { few = rows .few; nums-fit = omega arith; dens-fit = omega arith; sound = left .sound; size = hints .stirred .same-length ∙ rows .size; sparse = hints .sparse };
+        noted = ready .noted;
+        linked = linked-kept (rows .few) (ready .noted .below) (λ k low high. hints .stirred .links k low (λ e. omega arith)) (ready .linked);
       }
 
   -- Whatever is pending or open, the rest stays.
-  pub ready-kept : {sets′ : List ℕ} → length sets′ ≡ length sets → ((k : ℕ) → k < 192 → getD sets′ k 0 ≡ getD sets k 0) → Ready n nums heads inputs sets′
+  pub ready-kept : {sets′ : List ℕ} → length sets′ ≡ length (w .sets) → ((k : ℕ) → k < 192 → getD sets′ k 0 ≡ getD (w .sets) k 0) → Ready n heads inputs (withSets w sets′)
   unfolding columnsOf
   ready-kept same-length same =
+      let rows = ready .rows in
+      let few = rows .few in
       record {
-        size = same-length ∙ ready .size;
-        sparse = record { within = λ t below. subst (λ s. Within s (65 * t) nums) (sym (same t (omega arith))) (ready .sparse .within t below) };
-        linked = linked-kept few inputs-below (λ k low high. same k high) (ready .linked);
+        rows = record { few = few; nums-fit = rows .nums-fit; dens-fit = rows .dens-fit; sound = rows .sound; size = same-length ∙ rows .size; sparse = record { within = λ t below. subst (λ s. Within s (65 * t) (w .nums)) (sym (same t (omega arith))) (rows .sparse .within t below) } };
+        noted = ready .noted;
+        linked = linked-kept few (ready .noted .below) (λ k low high. same k high) (ready .linked);
       }
 
   -- So where pairs are noted, and where a lookup is shut.
-  pub ready-woken : {sets₁ : List ℕ} (waiting waiting₁ : List ℕ) → Woken n sets sets₁ waiting waiting₁ → Ready n nums heads inputs sets₁
+  pub ready-woken : {sets₁ : List ℕ} (waiting waiting₁ : List ℕ) → Woken n (w .sets) sets₁ waiting waiting₁ → Ready n heads inputs (withSets w sets₁)
   ready-woken waiting waiting₁ woken = ready-kept (woken .same-length) (λ k low. woken .others k (λ e. omega arith))
 
-  pub ready-shut : (shut : ℕ) → Ready n nums heads inputs (set sets 193 shut)
-  ready-shut shut = ready-kept (length-set sets 193 shut) (λ k low. getD-set-other sets 193 k shut 0 (λ e. omega arith))
+  pub ready-shut : (shut : ℕ) → Ready n heads inputs (withSets w (set (w .sets) 193 shut))
+  ready-shut shut = ready-kept (length-set (w .sets) 193 shut) (λ k low. getD-set-other (w .sets) 193 k shut 0 (λ e. omega arith))
 
 -- A set without one number.
 shut-cases : (same before : Bool) → (not same && before) ≡ false → (same ≡ true) ⊎ (before ≡ false)

@@ -3,18 +3,23 @@
 use mathlib.Core.Path.{_≡_, refl, sym, ap, _∙_}
 use mathlib.Core.List.{List}
 use Prim.Native.Nat.{ℕ}
-use lib.IntN.{ℤ}
+use borrow.Fn.Kinds.{Dens, endedOf}
+use contract.Lifetimes.{Lfts}
+use denote.Ref.{now}
+use denote.Triple.Clauses.{AtExit}
 use Rattle.fraction.specs.Made.{Made, made, stopped}
 use Rattle.problem.specs.declared.Term.{Term}
 use Rattle.run.specs.Row.{Table}
 use Rattle.run.specs.Merge.{State, Stop, contradiction, outside}
-use Rattle.table.specs.Held.{tableAt}
+use Rattle.table.specs.Work.{Work, tableOf}
 use Rattle.table.proofs.Determined.{table-determined, lists-determined}
-use Rattle.due.specs.Found.{Lookups, Awake}
+use Rattle.due.specs.Found.{Lookups}
 use Rattle.close.specs.declared.Closed.{Closed}
 use Rattle.close.specs.declared.Closed.the-variants.{Going, Contradiction, Refused}
-use Rattle.close.specs.Outcome.{closed}
-use Rattle.close.proofs.Turns.{Ended}
+use Rattle.close.specs.Outcome.{closed, WhileOpen}
+use Rattle.close.specs.Contract.{Closes}
+use Rattle.close.proofs.close.Kinds.{ps, r}
+use Rattle.close.proofs.close.Reads.{Post}
 
 closedOf : Made Stop State → Closed
 closedOf (made state) = Going (state .solved)
@@ -27,28 +32,26 @@ closed-back (Going solved) table = refl
 closed-back Contradiction table = refl
 closed-back (Refused number) table = refl
 
--- the table that an answer which goes on leaves
-table-back : {count : ℕ} (r s : Closed) (table other : Table) → closed r table ≡ closed s other → r ≡ Going count → s ≡ Going count → table ≡ other
-unfolding closed
-table-back {count} r s table other e p q =
-    let same : _≡_ {A = Made Stop State} (made (record { table = table; solved = count })) (made (record { table = other; solved = count })) =
-    sym (ap (λ x. closed x table) p) ∙ e ∙ ap (λ x. closed x other) q
-    in
-    let states : _≡_ {A = State} (record { table = table; solved = count }) (record { table = other; solved = count }) = cc in
-    ap (λ state. state .table) states
+-- equal answers that go on leave equal tables
+table-back : (r : Closed) {P : Type 0} (table table′ : Table) → closed r table ≡ closed r table′ → (table ≡ table′ → P) → WhileOpen P r
+unfolding closed WhileOpen
+table-back (Going count) table table′ h k = let same : _≡_ {A = State} (record { table = table; solved = count }) (record { table = table′; solved = count }) = cc in k (ap (λ s. s .table) same)
+table-back Contradiction table table′ h k = tt
+table-back (Refused number) table table′ h k = tt
+
+module _ {n solved : ℕ} {heads inputs : List ℕ} {x y : Closed} {old new new′ : Work} (terms : List Term) (lookups : Lookups terms n heads inputs) (first : Closes n solved heads inputs x old new) (second : Closes n solved heads inputs y old new′) where
+  both : closed x (tableOf n new) ≡ closed y (tableOf n new′)
+  both = sym (first .answers terms lookups) ∙ second .answers terms lookups
+
+  answers-same : x ≡ y
+  answers-same = sym (closed-back x (tableOf n new)) ∙ ap closedOf both ∙ closed-back y (tableOf n new′)
+
+  lists-same : WhileOpen ((new .nums ≡ new′ .nums) × (new .dens ≡ new′ .dens)) x
+  lists-same =
+      table-back x (tableOf n new) (tableOf n new′) (both ∙ ap (λ a. closed a (tableOf n new′)) (sym answers-same)) λ same.
+      lists-determined (first .kept) (second .kept) λ k above below. table-determined n (first .sound) (second .sound) same k below
 
 -- The answer is fixed, and so are both lists where closing goes on; the sets are hints, of which any larger ones serve as well. (Where it stops, the first 65n places may hold anything that is
--- sound.)
-pub close-unique : (n solved : ℕ) {heads inputs : List ℕ} {r s : Closed} {nums₀ dens₀ nums dens nums′ dens′ : List ℤ} {sets₀ : List ℕ} (sets sets′ : List ℕ) (terms : List Term) → Lookups terms n heads inputs → Awake terms n (tableAt n nums₀ dens₀) sets₀ → Ended n solved heads inputs nums₀ dens₀ sets₀ r nums dens sets → Ended n solved heads inputs nums₀ dens₀ sets₀ s nums′ dens′ sets′ → (r ≡ s) × ((count : ℕ) → r ≡ Going count → (nums ≡ nums′) × (dens ≡ dens′))
-close-unique n solved {r = r} {s} {nums = nums} {dens} {nums′} {dens′} sets sets′ terms lookups awake first second = (
-  same,
-  λ count goes-on. lists-determined (first .1 .0) (second .1 .0) λ k above below.
-      table-determined n (first .1 .1 .0) (second .1 .1 .0)
-      (table-back r s (tableAt n nums dens) (tableAt n nums′ dens′) answers goes-on (sym same ∙ goes-on)) k below,
-)
-  where
-    answers : closed r (tableAt n nums dens) ≡ closed s (tableAt n nums′ dens′)
-    answers = sym (first .0 terms lookups awake) ∙ second .0 terms lookups awake
-
-    same : r ≡ s
-    same = sym (closed-back r (tableAt n nums dens)) ∙ ap closedOf answers ∙ closed-back s (tableAt n nums′ dens′)
+-- sound.) Said of the contract itself.
+pub close-unique : (κs : Lfts 5) (a : Dens κs ps) (x y : Closed) (end end′ : AtExit (endedOf 5 ps r) κs) (terms : List Term) → Lookups terms (a .1 .1 .0) (now (a .1 .1 .1 .0)) (now (a .1 .1 .1 .1 .0)) → Post κs a x end → Post κs a y end′ → (x ≡ y) × WhileOpen ((now (end .0) ≡ now (end′ .0)) × (now (end .1 .0) ≡ now (end′ .1 .0))) x
+close-unique κs a x y end end′ terms lookups first second = (answers-same terms lookups first second, lists-same terms lookups first second)

@@ -1,3 +1,4 @@
+pub mod Contract
 pub mod Outcome
 pub mod Ready
 pub mod Woken

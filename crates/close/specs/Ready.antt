@@ -1,14 +1,22 @@
--- The sets that a run keeps serve its rows and lookups.
--- Main definition: `Ready`. Assumes nothing.
-use mathlib.Core.Path.{_≡_}
-use mathlib.Core.List.{List}
+-- The lists that a run keeps serve its rows and lookups.
+-- Main definitions: `withSets`, `Ready`, `Resting`. Assume nothing.
+use mathlib.Core.List.{List, []}
 use Prim.Native.Nat.{ℕ}
-use lib.ListN.{length}
-use lib.IntN.{ℤ}
-use Rattle.table.specs.Sparse.{Sparse, Linked}
+use Rattle.table.specs.Sparse.{Linked}
+use Rattle.table.specs.Work.{Work, Rows}
+use Rattle.due.specs.Contract.{Noted, Watching}
 
--- All are there; each row's columns are within its set; users and earlier lookups are noted.
-pub record Ready (n : ℕ) (nums : List ℤ) (heads inputs sets : List ℕ) : Type 0 where
-  pub size : length sets ≡ 194
-  pub sparse : Sparse n nums sets
-  pub linked : Linked n heads inputs sets
+-- the lists with other sets
+abbrev pub withSets : Work → (sets : List ℕ) → Work
+withSets w sets = record { nums = w .nums; dens = w .dens; sets = sets }
+
+-- The rows can be worked on; the lookups are noted, with their users and the earlier ones of their function.
+pub record Ready (n : ℕ) (heads inputs : List ℕ) (w : Work) : Type 0 where
+  pub rows : Rows n w
+  pub noted : Noted n heads inputs
+  pub linked : Linked n heads inputs (w .sets)
+
+-- Between closings no pair waits, and closing will look at every pair due.
+pub record Resting (n : ℕ) (heads inputs : List ℕ) (w : Work) : Type 0 where
+  pub ready : Ready n heads inputs w
+  pub awake : Watching n heads inputs [] w

@@ -7,18 +7,8 @@ use due::RIGHTS;
 use merge::Merged;
 use table::OPEN;
 use table::PENDING;
-ghost use mathlib.Core.Path.{_≡_};
-ghost use mathlib.Core.List.{List};
-ghost use Prim.Native.Nat.{_+_, _*_, _≤_};
-ghost use lib.ListN.{length};
-ghost use Rattle.problem.specs.declared.Term.{Term};
-ghost use Rattle.run.specs.Close as rule;
-ghost use Rattle.run.specs.Run.{byNumber};
-ghost use Rattle.table.specs.Held.{tableAt, SoundTo};
-ghost use Rattle.table.specs.Loop.{Kept};
-ghost use Rattle.due.specs.Found.{Lookups, InputsBelow, Awake};
-ghost use Rattle.close.specs.Outcome.{closed, Counted, WhileOpen};
-ghost use Rattle.close.specs.Ready.{Ready};
+ghost use Rattle.table.specs.Work.{lent, entered, leaving};
+ghost use Rattle.close.specs.Contract.{Closable, Closes};
 
 // What closing does: it goes on with the count of solved unknowns, no pair being due; or it stops, since no reading is left, or
 // with the number of a refusal.
@@ -40,18 +30,8 @@ pub fn close(
     sets: &mut [u64],
     solved: usize,
 ) -> Closed
-    requires { ⌜ (n ≤ 64) × (solved ≤ 8192) ⌝ }
-    requires { ⌜ (4160 ≤ length (now nums)) × (4160 ≤ length (now dens)) ⌝ }
-    requires { ⌜ (64 ≤ length (now heads)) × (192 ≤ length (now inputs)) ⌝ }
-    requires { ⌜ SoundTo (65 * n) (now nums) (now dens) ⌝ }
-    requires { ⌜ InputsBelow n (now inputs) ⌝ }
-    requires { ⌜ Ready n (now nums) (now heads) (now inputs) (now sets) ⌝ }
-    ensures { λ r. ⌜ ((terms : List Term) → Lookups terms n (now (heads .entry)) (now (inputs .entry)) → Awake terms n (tableAt n (now (nums .entry)) (now (dens .entry))) (now (sets .entry)) → rule.close byNumber terms (record { table = tableAt n (now (nums .entry)) (now (dens .entry)); solved = solved }) ≡ closed r (tableAt n (now (nums .exit)) (now (dens .exit)))) ⌝ }
-    ensures { λ r. ⌜ Kept 0 (65 * n) (now (nums .entry)) (now (dens .entry)) (now (nums .exit)) (now (dens .exit)) ⌝ }
-    ensures { λ r. ⌜ SoundTo (65 * n) (now (nums .exit)) (now (dens .exit)) ⌝ }
-    ensures { λ r. ⌜ Counted (solved + n + 1) r ⌝ }
-    ensures { λ r. ⌜ WhileOpen (Ready n (now (nums .exit)) (now (heads .entry)) (now (inputs .entry)) (now (sets .exit))) r ⌝ }
-    ensures { λ r. ⌜ ((terms : List Term) → Lookups terms n (now (heads .entry)) (now (inputs .entry)) → Awake terms n (tableAt n (now (nums .entry)) (now (dens .entry))) (now (sets .entry)) → WhileOpen (Awake terms n (tableAt n (now (nums .exit)) (now (dens .exit))) (now (sets .exit))) r) ⌝ }
+    requires { ⌜ Closable n solved (now heads) (now inputs) (lent nums dens sets) ⌝ }
+    ensures { λ r. ⌜ Closes n solved (now (heads .entry)) (now (inputs .entry)) r (entered nums dens sets) (leaving nums dens sets) ⌝ }
 {
     if sets[PENDING] == 0 {
         return Closed::Going(solved);

@@ -3,14 +3,17 @@
 use mathlib.Core.Path.{_≡_, refl, sym, ap, _∙_}
 use mathlib.Core.List.{List}
 use mathlib.Core.Option.{Option, some, none}
-use Prim.Native.Nat.{ℕ}
+use borrow.Fn.Kinds.{Dens, endedOf}
+use contract.Lifetimes.{Lfts}
+use denote.Ref.{now}
+use denote.Triple.Clauses.{AtExit}
 use Rattle.problem.specs.declared.Term.{Term}
 use Rattle.problem.specs.Problem.{Pair}
-use Rattle.run.specs.Row.{Table}
-use Rattle.run.specs.Close.{due}
 use Rattle.due.specs.declared.Due.{Due}
 use Rattle.due.specs.declared.Due.the-variants.{Pair as Found, Closed}
-use Rattle.due.specs.Found.{Lookups, pairOf, Watched}
+use Rattle.due.specs.Found.{Lookups, pairOf}
+use Rattle.due.proofs.find_due.Kinds.{ps, r}
+use Rattle.due.proofs.find_due.Reads.{Post}
 
 dueOf : Option Pair → Due
 dueOf none = Closed
@@ -21,11 +24,6 @@ unfolding pairOf dueOf
 due-back (Found left right) = refl
 due-back Closed = refl
 
-module _ (n : ℕ) (heads inputs sets waiting₀ : List ℕ) (table : Table) where
-  -- what the contract promises of the answer; the pairs that wait afterwards are hints, of which more would do
-  abbrev Promised : Due → (waiting : List ℕ) → Type 0
-  Promised r waiting = (terms : List Term) → Lookups terms n heads inputs → Watched waiting₀ terms n table sets → (due terms table ≡ pairOf r) × Watched waiting terms n table sets
-
-  pub find-due-unique : (terms : List Term) → Lookups terms n heads inputs → Watched waiting₀ terms n table sets → (r s : Due) (waiting waiting′ : List ℕ) → Promised r waiting → Promised s waiting′ → r ≡ s
-  find-due-unique terms lookups watched r s waiting waiting′ p q =
-      sym (due-back r) ∙ ap dueOf (sym (p terms lookups watched .0) ∙ q terms lookups watched .0) ∙ due-back s
+-- Said of the contract itself. The pairs that wait afterwards are hints, of which more would do.
+pub find-due-unique : (κs : Lfts 6) (a : Dens κs ps) (x y : Due) (end end′ : AtExit (endedOf 6 ps r) κs) (terms : List Term) → Lookups terms (a .1 .1 .0) (now (a .1 .1 .1 .0)) (now (a .1 .1 .1 .1 .0)) → Post κs a x end → Post κs a y end′ → x ≡ y
+find-due-unique κs a x y end end′ terms lookups p q = sym (due-back x) ∙ ap dueOf (sym (p .pair terms lookups) ∙ q .pair terms lookups) ∙ due-back y

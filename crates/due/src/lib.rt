@@ -13,11 +13,13 @@ ghost use Rattle.problem.specs.declared.Kind.{Kind};
 ghost use Rattle.problem.specs.declared.Term.{Term};
 ghost use Rattle.problem.specs.Lookup.{alike};
 ghost use Rattle.run.specs.Row.{sameRow};
-ghost use Rattle.run.specs.Close.{isDue, due};
+ghost use Rattle.run.specs.Close.{isDue};
 ghost use Rattle.table.specs.Calls.{headOf};
 ghost use Rattle.table.specs.Held.{tableAt, SoundTo};
-ghost use Rattle.table.specs.Sparse.{pendingOf, openOf, Sparse};
-ghost use Rattle.due.specs.Found.{symbolOf, Lookups, InputsBelow, sameInput, sameInputs, leftAmong, pairOf, Below, Passed, Watched};
+ghost use Rattle.table.specs.Sparse.{openOf, Sparse};
+ghost use Rattle.table.specs.Work.{lent, entered};
+ghost use Rattle.due.specs.Found.{symbolOf, Lookups, InputsBelow, sameInput, sameInputs, leftAmong, pairOf, Below, Passed};
+ghost use Rattle.due.specs.Contract.{Searchable, FindsDue};
 
 // Behind the sets of the lookups that wait to be compared with each: the set of those that any waits for.
 pub const RIGHTS: usize = TERMS;
@@ -176,15 +178,8 @@ pub fn find_due(
     sets: &[u64],
     waiting: &mut [u64],
 ) -> Due
-    requires { ⌜ (n ≤ 64) × (65 ≤ length (now waiting)) ⌝ }
-    requires { ⌜ (4160 ≤ length (now nums)) × (4160 ≤ length (now dens)) ⌝ }
-    requires { ⌜ (64 ≤ length (now heads)) × (192 ≤ length (now inputs)) × (194 ≤ length (now sets)) ⌝ }
-    requires { ⌜ SoundTo (65 * n) (now nums) (now dens) ⌝ }
-    requires { ⌜ InputsBelow n (now inputs) ⌝ }
-    requires { ⌜ Sparse n (now nums) (now sets) ⌝ }
-    requires { ⌜ pendingOf (now sets) ≡ 0 ⌝ }
-    ensures { λ r. ⌜ ((terms : List Term) → Lookups terms n (now (heads .entry)) (now (inputs .entry)) → Watched (now (waiting .entry)) terms n (tableAt n (now (nums .entry)) (now (dens .entry))) (now (sets .entry)) → (due terms (tableAt n (now (nums .entry)) (now (dens .entry))) ≡ pairOf r) × Watched (now (waiting .exit)) terms n (tableAt n (now (nums .entry)) (now (dens .entry))) (now (sets .entry))) ⌝ }
-    ensures { λ r. ⌜ Below n r ⌝ }
+    requires { ⌜ Searchable n (now heads) (now inputs) (now waiting) (lent nums dens sets) ⌝ }
+    ensures { λ r. ⌜ FindsDue n (now (heads .entry)) (now (inputs .entry)) (now (waiting .exit)) (entered nums dens sets) r ⌝ }
 {
     let rights = open_waiting(sets, waiting, RIGHTS);
     let mut j = ends::next(rights, 0);

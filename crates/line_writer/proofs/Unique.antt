@@ -1,20 +1,30 @@
 -- Each contract leaves one answer.
 -- Main results: a law NAME-unique for each public function NAME. Assume nothing.
 use mathlib.Core.Path.{_≡_}
-use mathlib.Core.List.{List}
-use Prim.Native.Nat.{ℕ}
-use lib.IntN.{ℤ}
+use contract.Lifetimes.{Lfts}
+use base.Logic.{emp}
+use borrow.Fn.Claims.{AllOf}
+use borrow.Fn.Read.{ReadAt, no-know, reads}
+use borrow.Fn.World.{World, ArgsD, w₀}
 use denote.Ref.{now}
-use Rattle.answer.specs.declared.Answer.{Answer}
+use denote.Triple.Clauses.{AtExit}
 use Rattle.listing.specs.Listing.{listRow}
 use Rattle.lines.specs.declared.Reached.{Reached}
 use Rattle.lines.specs.Leaves.{leaves, listFirst}
 use Rattle.lines.proofs.Unique.{leaves-unique}
-use Rattle.line_writer.specs.declared.Writer.{Writer}
+use Rattle.line_writer.proofs.list_row as list-row
+use Rattle.line_writer.proofs.first_line as first-line
 
-module _ (r s : Reached) (after after′ : List ℕ) where
-  pub list-row-unique : (w : Writer) (nums dens : List ℤ) (t : ℕ) → leaves r after ≡ listRow nums dens t (w .at) (now (w .buf)) → leaves s after′ ≡ listRow nums dens t (w .at) (now (w .buf)) → (r ≡ s) × (after ≡ after′)
-  list-row-unique w nums dens t = leaves-unique r s after after′ (listRow nums dens t (w .at) (now (w .buf)))
+-- A function that is walked by hand has no `Reads`: what its `ensures` says is read here, by the rules that the toolchain reads by.
+module _ (w : World) where
+  abbrev row-read : (κs : Lfts 3) (a : ArgsD list-row.signature κs) (x : Reached) (end : AtExit list-row.ended κs) → ReadAt w (λ w. emp (w .𝓤)) no-know (list-row.clauses (w .𝓤) (w .H) (w .𝓖 .A) (w .𝓜 .mem) (w .𝓡 .run) κs a .ensures tt x end)
+  row-read κs a x end = search reads
 
-  pub first-line-unique : (w : Writer) (answer : Answer) → leaves r after ≡ listFirst answer (w .at) (now (w .buf)) → leaves s after′ ≡ listFirst answer (w .at) (now (w .buf)) → (r ≡ s) × (after ≡ after′)
-  first-line-unique w answer = leaves-unique r s after after′ (listFirst answer (w .at) (now (w .buf)))
+  abbrev line-read : (κs : Lfts 1) (a : ArgsD first-line.signature κs) (x : Reached) (end : AtExit first-line.ended κs) → ReadAt w (λ w. emp (w .𝓤)) no-know (first-line.clauses (w .𝓤) (w .H) (w .𝓖 .A) (w .𝓜 .mem) (w .𝓡 .run) κs a .ensures tt x end)
+  line-read κs a x end = search reads
+
+pub list-row-unique : (κs : Lfts 3) (a : ArgsD list-row.signature κs) (x y : Reached) (end end′ : AtExit list-row.ended κs) → AllOf (row-read w₀ κs a x end .owes) → AllOf (row-read w₀ κs a y end′ .owes) → (x ≡ y) × (now (end .0 .0) ≡ now (end′ .0 .0))
+list-row-unique κs a x y end end′ = leaves-unique x y (now (end .0 .0)) (now (end′ .0 .0)) (listRow (now (a .1 .0)) (now (a .1 .1 .0)) (a .1 .1 .1 .0) (a .0 .at) (now (a .0 .buf)))
+
+pub first-line-unique : (κs : Lfts 1) (a : ArgsD first-line.signature κs) (x y : Reached) (end end′ : AtExit first-line.ended κs) → AllOf (line-read w₀ κs a x end .owes) → AllOf (line-read w₀ κs a y end′ .owes) → (x ≡ y) × (now (end .0 .0) ≡ now (end′ .0 .0))
+first-line-unique κs a x y end end′ = leaves-unique x y (now (end .0 .0)) (now (end′ .0 .0)) (listFirst (a .1 .0) (a .0 .at) (now (a .0 .buf)))

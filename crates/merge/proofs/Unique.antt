@@ -3,21 +3,25 @@
 use mathlib.Core.Path.{_≡_, refl, sym, ap, _∙_}
 use mathlib.Core.Bool.{cond}
 use mathlib.Core.List.{List}
-use Prim.Native.Nat.{ℕ, suc, _*_}
+use Prim.Native.Nat.{ℕ, suc}
 use native.Mathlib.Omega.{arith}
-use lib.IntN.{ℤ}
 use lib.Dec.{eqb}
 use borrow.Author.Tests.{eq-eqb, ne-eqb}
+use borrow.Fn.Kinds.{PK, RK, Dens, Out, endedOf, resT}
+use contract.Lifetimes.{Lfts}
+use denote.Ref.{now}
+use denote.Triple.Clauses.{AtExit}
 use Rattle.fraction.specs.Made.{Made, made, stopped}
 use Rattle.run.specs.Row.{Table}
-use Rattle.run.specs.Merge.{State, Stop, contradiction, outside, merge}
-use Rattle.run.specs.Run.{byNumber}
-use Rattle.table.specs.Held.{tableAt, SoundTo}
-use Rattle.table.specs.Loop.{Kept}
+use Rattle.run.specs.Merge.{State, Stop, contradiction, outside}
+use Rattle.table.specs.Work.{Work, tableOf}
 use Rattle.table.proofs.Determined.{table-determined, lists-determined}
 use Rattle.merge.specs.declared.Merged.{Merged}
 use Rattle.merge.specs.declared.Merged.the-variants.{Nothing, Solved, Contradiction, Refused}
-use Rattle.merge.specs.Outcome.{merged}
+use Rattle.merge.specs.Outcome.{merged, Unstopped}
+use Rattle.merge.specs.Contract.{Merges}
+use Rattle.merge.proofs.merge.Kinds.{ps, r}
+use Rattle.merge.proofs.merge.Reads.{Post}
 
 -- what the rule's answer says, where `before` unknowns were solved
 mergedOf : (before : ℕ) → Made Stop State → Merged
@@ -32,25 +36,28 @@ merged-back Solved before table = rw (ne-eqb (suc before) before (λ same. omega
 merged-back Contradiction before table = refl
 merged-back (Refused number) before table = refl
 
--- the table that an answer which does not stop leaves
-table-back : (r : Merged) (before : ℕ) (table : Table) (state : State) → merged r before table ≡ made state → table ≡ state .table
-unfolding merged
-table-back Nothing before table state h = let same : record { table = table; solved = before } ≡ state = cc in ap (λ s. s .table) same
-table-back Solved before table state h = let same : record { table = table; solved = suc before } ≡ state = cc in ap (λ s. s .table) same
-table-back Contradiction before table state h = let no-way : _≡_ {A = ℕ} 0 1 = cc in absurd (omega arith)
-table-back (Refused number) before table state h = let no-way : _≡_ {A = ℕ} 0 1 = cc in absurd (omega arith)
+-- equal answers that do not stop leave equal tables
+table-back : (r : Merged) {P : Type 0} (table table′ : Table) → merged r 0 table ≡ merged r 0 table′ → (table ≡ table′ → P) → Unstopped r P
+unfolding merged Unstopped
+table-back Nothing table table′ h k = let same : _≡_ {A = State} (record { table = table; solved = 0 }) (record { table = table′; solved = 0 }) = cc in k (ap (λ s. s .table) same)
+table-back Solved table table′ h k = let same : _≡_ {A = State} (record { table = table; solved = 1 }) (record { table = table′; solved = 1 }) = cc in k (ap (λ s. s .table) same)
+table-back Contradiction table table′ h k = tt
+table-back (Refused number) table table′ h k = tt
 
--- what `merge` ensures of its answer and of the lists at exit
-abbrev pub Merges : (n t u : ℕ) (r : Merged) (nums₀ dens₀ nums dens : List ℤ) → Type 0
-Merges n t u r nums₀ dens₀ nums dens =
-    ((solved : ℕ) → merge byNumber t u (record { table = tableAt n nums₀ dens₀; solved = solved }) ≡ merged r solved (tableAt n nums dens)) × (Kept 0 (65 * n) nums₀ dens₀ nums dens × SoundTo (65 * n) nums dens)
+module _ {n t u : ℕ} {r s : Merged} {old new new′ : Work} (first : Merges n t u r old new) (second : Merges n t u s old new′) where
+  answers-same : r ≡ s
+  answers-same = sym (merged-back r 0 (tableOf n new)) ∙ ap (mergedOf 0) (sym (first .answers 0) ∙ second .answers 0) ∙ merged-back s 0 (tableOf n new′)
+
+  lists-same : Unstopped r ((new .nums ≡ new′ .nums) × (new .dens ≡ new′ .dens))
+  lists-same =
+      table-back r (tableOf n new) (tableOf n new′) (sym (first .answers 0) ∙ second .answers 0 ∙ ap (λ a. merged a 0 (tableOf n new′)) (sym answers-same)) λ same.
+      lists-determined (first .left .kept) (second .left .kept) λ k above below. table-determined n (first .left .sound) (second .left .sound) same k below
+
+-- Two answers to one call: whatever its arguments, and whatever they hold at each exit.
+abbrev pub Twice : {m : ℕ} (ps : List (PK m)) (r : RK m) → Out m ps r → ((κs : Lfts m) → Dens κs ps → (x y : resT r κs .Denot) → (end end′ : AtExit (endedOf m ps r) κs) → Type 0) → Type 0
+Twice {m} ps r Post same = (κs : Lfts m) (a : Dens κs ps) (x y : resT r κs .Denot) (end end′ : AtExit (endedOf m ps r) κs) → Post κs a x end → Post κs a y end′ → same κs a x y end end′
 
 -- The answer is fixed, and so are both lists where the merge does not stop. (Where it stops, the first 65n places may hold anything
--- that is sound: the run ends there, and its caller clears them.)
-pub merge-unique : (n t u : ℕ) {r s : Merged} {nums₀ dens₀ nums dens nums′ dens′ : List ℤ} → Merges n t u r nums₀ dens₀ nums dens → Merges n t u s nums₀ dens₀ nums′ dens′ → (r ≡ s) × ((state : State) → merge byNumber t u (record { table = tableAt n nums₀ dens₀; solved = 0 }) ≡ made state → (nums ≡ nums′) × (dens ≡ dens′))
-merge-unique n t u {r} {s} {nums = nums} {dens} {nums′} {dens′} first second = (
-  sym (merged-back r 0 (tableAt n nums dens)) ∙ ap (mergedOf 0) (sym (first .0 0) ∙ second .0 0) ∙ merged-back s 0 (tableAt n nums′ dens′),
-  λ state goes-on. lists-determined (first .1 .0) (second .1 .0) λ k above below.
-      table-determined n (first .1 .1) (second .1 .1)
-      (table-back r 0 (tableAt n nums dens) state (sym (first .0 0) ∙ goes-on) ∙ sym (table-back s 0 (tableAt n nums′ dens′) state (sym (second .0 0) ∙ goes-on))) k below,
-)
+-- that is sound: the run ends there, and its caller clears them.) Said of the contract itself: of what the toolchain reads from it.
+pub merge-unique : Twice ps r Post λ κs a x y end end′. (x ≡ y) × Unstopped x ((now (end .0) ≡ now (end′ .0)) × (now (end .1 .0) ≡ now (end′ .1 .0)))
+merge-unique κs a x y end end′ first second = (answers-same first second, lists-same first second)

@@ -1,18 +1,18 @@
 -- What holds while closing or the run goes on, and how many unknowns are solved then.
 -- Main results: `counted-more`, `when-going`, `while-going`, `going-holds`, `open-going`. Assume nothing.
 use mathlib.Core.Path.{_≡_, refl, subst}
+use mathlib.Core.List.{[]}
 use Prim.Native.Nat.{ℕ, _≤_}
 use native.Mathlib.Omega.{arith}
 use Rattle.fraction.specs.Made.{because}
 use Rattle.fraction.proofs.Making.{stopped-not-made}
-use Rattle.run.specs.Row.{Table}
 use Rattle.run.specs.Run.{ends}
 use Rattle.close.specs.declared.Closed.{Closed}
 use Rattle.close.specs.declared.Closed.the-variants.{Going as Open, Contradiction, Refused}
 use Rattle.close.specs.Outcome.{closed, Counted, WhileOpen}
 use Rattle.steps.specs.declared.Ran.{Ran}
 use Rattle.steps.specs.declared.Ran.the-variants.{Going, Ended}
-use Rattle.steps.specs.Ran.{ran, WhileGoing}
+use Rattle.steps.specs.Ran.{ran, WhileGoing, Places}
 
 -- A count that is at most one number is at most a greater one.
 pub counted-more : {few many : ℕ} (closing : Closed) → few ≤ many → Counted few closing → Counted many closing
@@ -34,11 +34,13 @@ pub going-holds : {holds : Type 0} {r : Ran} {count : ℕ} → r ≡ Going count
 unfolding WhileGoing
 going-holds {holds} going held = subst (WhileGoing holds) going held
 
-module _ (holds : Type 0) (place : ℕ) where
-  -- Closing that has stopped ends the run.
-  pub open-going : (closing : Closed) (r : Ran) (table : Table) → because (ends place) (closed closing table) ≡ ran r table → WhileOpen holds closing → WhileGoing holds r
-  unfolding because closed ran WhileOpen WhileGoing
-  open-going closing (Ended answer) table placed held = tt
-  open-going (Open solved) (Going count) table placed held = held
-  open-going Contradiction (Going count) table placed held = absurd (stopped-not-made placed)
-  open-going (Refused number) (Going count) table placed held = absurd (stopped-not-made placed)
+-- Closing that has stopped ends the run.
+pub open-going : (holds : Type 0) {place : ℕ} {closing : Closed} {most : ℕ} {r : Ran} → Places place closing most r → WhileOpen holds closing → WhileGoing holds r
+unfolding because closed ran WhileOpen WhileGoing
+open-going holds {place} {closing} {r = r} places = by closing r (places .answers [])
+  where
+    by : (closing : Closed) (r : Ran) → because (ends place) (closed closing []) ≡ ran r [] → WhileOpen holds closing → WhileGoing holds r
+    by closing (Ended answer) placed held = tt
+    by (Open solved) (Going count) placed held = held
+    by Contradiction (Going count) placed held = absurd (stopped-not-made placed)
+    by (Refused number) (Going count) placed held = absurd (stopped-not-made placed)

@@ -4,15 +4,17 @@ use mathlib.Core.Path.{_≡_, refl, sym, ap, _∙_}
 use mathlib.Core.List.{[]}
 use Prim.Native.Nat.{ℕ}
 use Rattle.answer.specs.declared.Answer.{Answer}
-use Rattle.fraction.specs.Made.{Made, made, stopped, because}
+use borrow.Fn.Kinds.{Dens, endedOf}
+use contract.Lifetimes.{Lfts}
+use denote.Triple.Clauses.{AtExit}
+use Rattle.fraction.specs.Made.{Made, made, stopped}
 use Rattle.run.specs.Row.{Table}
 use Rattle.run.specs.Merge.{State}
-use Rattle.run.specs.Run.{ends}
-use Rattle.close.specs.declared.Closed.{Closed}
-use Rattle.close.specs.Outcome.{closed}
 use Rattle.steps.specs.declared.Ran.{Ran}
 use Rattle.steps.specs.declared.Ran.the-variants.{Going, Ended}
 use Rattle.steps.specs.Ran.{ran}
+use Rattle.steps.proofs.placed.Kinds.{ps, r}
+use Rattle.steps.proofs.placed.Reads.{Post}
 
 ranOf : Made Answer State → Ran
 ranOf (made state) = Going (state .solved)
@@ -38,5 +40,5 @@ module _ {m : Made Answer State} (r s : Ran) (table other : Table) (p : m ≡ ra
       ap (λ state. state .table) states
 
 -- No second answer satisfies the contract of `placed`.
-pub placed-unique : (place : ℕ) (closing : Closed) (r s : Ran) → ((table : Table) → because (ends place) (closed closing table) ≡ ran r table) → ((table : Table) → because (ends place) (closed closing table) ≡ ran s table) → r ≡ s
-placed-unique place closing r s p q = ran-determined r s [] [] (p []) (q [])
+pub placed-unique : (κs : Lfts 0) (a : Dens κs ps) (x y : Ran) (end end′ : AtExit (endedOf 0 ps r) κs) → Post κs a x end → Post κs a y end′ → x ≡ y
+placed-unique κs a x y end end′ p q = ran-determined x y [] [] (p .answers []) (q .answers [])

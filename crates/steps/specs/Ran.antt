@@ -1,18 +1,20 @@
 -- How far the run has come in code, as the rules have it.
--- Main definitions: `ran`, `AtMost`, `WhileGoing`, `Prepared`. Assumes nothing.
+-- Main definitions: `ran`, `AtMost`, `WhileGoing`, `Prepared`, `Places`. Assumes nothing.
 use mathlib.Core.Path.{_≡_}
 use mathlib.Core.List.{List}
-use Prim.Native.Nat.{ℕ, _*_, _≤_}
-use lib.IntN.{ℤ}
+use Prim.Native.Nat.{ℕ, _≤_}
 use Rattle.answer.specs.declared.Answer.{Answer}
-use Rattle.fraction.specs.Made.{Made, made, stopped}
+use Rattle.fraction.specs.Made.{Made, made, stopped, because}
 use Rattle.problem.specs.Bits.{field}
 use Rattle.problem.specs.Problem.{Problem, decoded}
 use Rattle.run.specs.Row.{Table}
 use Rattle.run.specs.Merge.{State}
-use Rattle.table.specs.Held.{tableAt, SoundTo}
-use Rattle.due.specs.Found.{Lookups, InputsBelow, Awake}
-use Rattle.close.specs.Ready.{Ready}
+use Rattle.run.specs.Run.{ends}
+use Rattle.table.specs.Work.{Work}
+use Rattle.due.specs.Found.{Lookups}
+use Rattle.close.specs.declared.Closed.{Closed}
+use Rattle.close.specs.Outcome.{closed}
+use Rattle.close.specs.Ready.{Resting}
 use Rattle.reader.specs.Held.{Held}
 use Rattle.steps.specs.declared.Ran.{Ran}
 use Rattle.steps.specs.declared.Ran.the-variants.{Going, Ended}
@@ -33,11 +35,13 @@ WhileGoing holds (Going solved) = holds
 WhileGoing holds (Ended answer) = Unit {0}
 
 -- The byte string holds a problem of n terms, whose rows are sound and whose lookups are noted as numbers; the sets serve both.
-pub record Prepared (bytes : List ℕ) (n : ℕ) (nums dens : List ℤ) (heads inputs sets : List ℕ) : Type 0 where
+pub record Prepared (bytes : List ℕ) (n : ℕ) (heads inputs : List ℕ) (w : Work) : Type 0 where
   pub held : Held bytes
   pub terms : n ≡ field bytes 0 8
-  pub sound : SoundTo (65 * n) nums dens
   pub lookups : (problem : Problem) → decoded bytes ≡ made problem → Lookups (problem .terms) n heads inputs
-  pub below : InputsBelow n inputs
-  pub ready : Ready n nums heads inputs sets
-  pub awake : (problem : Problem) → decoded bytes ≡ made problem → Awake (problem .terms) n (tableAt n nums dens) sets
+  pub resting : Resting n heads inputs w
+
+-- What `placed` ensures: a stop has its place.
+pub record Places (place : ℕ) (closing : Closed) (most : ℕ) (r : Ran) : Type 0 where
+  pub answers : (table : Table) → because (ends place) (closed closing table) ≡ ran r table
+  pub counted : AtMost most r

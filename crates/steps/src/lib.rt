@@ -1,12 +1,8 @@
 // How far the run has come: it goes on, or has ended with an answer.
 use answer::Answer;
 use close::Closed;
-ghost use mathlib.Core.Path.{_≡_};
-ghost use Rattle.fraction.specs.Made.{because};
-ghost use Rattle.run.specs.Row.{Table};
-ghost use Rattle.run.specs.Run.{ends};
-ghost use Rattle.close.specs.Outcome.{closed, Counted};
-ghost use Rattle.steps.specs.Ran.{ran, AtMost};
+ghost use Rattle.close.specs.Outcome.{Counted};
+ghost use Rattle.steps.specs.Ran.{Places};
 
 // A run goes on with its count of solved unknowns, or has ended with an answer.
 pub enum Ran {
@@ -17,8 +13,7 @@ pub enum Ran {
 // What closing at an assumption comes to: a stop gets its place.
 pub fn placed(place: usize, closing: Closed, most: usize) -> Ran
     requires { ⌜ Counted most closing ⌝ }
-    ensures { λ r. ⌜ ((table : Table) → because (ends place) (closed closing table) ≡ ran r table) ⌝ }
-    ensures { λ r. ⌜ AtMost most r ⌝ }
+    ensures { λ r. ⌜ Places place closing most r ⌝ }
 {
     match closing {
         Closed::Going(solved) => Ran::Going(solved),

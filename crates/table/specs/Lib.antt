@@ -2,3 +2,4 @@ pub mod Calls
 pub mod Held
 pub mod Loop
 pub mod Sparse
+pub mod Work

@@ -1,41 +1,33 @@
 -- `assume::assume_one` meets its contract. Assumes nothing.
-use mathlib.Core.Path.{_≡_, refl}
-use native.Mathlib.Omega.{arith}
 use borrow.Author.Needs.{needs}
-use Prim.Native.Nat.{suc, _+_}
-use Rattle.merge.specs.Outcome.{merged}
-use Rattle.merge.specs.declared.Merged.the-variants.{Nothing, Solved}
-use Rattle.table.specs.Held.{tableAt}
-use Rattle.table.proofs.Columns.{kept-then}
-use Rattle.steps.specs.Ran.{AtMost, WhileGoing}
-use Rattle.steps.proofs.Going.{counted-more, open-going}
-use Rattle.assume.proofs.One.{assumed-closed, assumed-contradicts, assumed-refuses, goes-ready, goes-awake}
+use native.Mathlib.Omega.{arith}
+use Rattle.steps.proofs.Going.{counted-more}
+use Rattle.assume.proofs.One.{assumes-same, assumes-more, same-closes, more-closes, assumes-contradicts, assumes-refuses}
 use Rattle.assume.proofs.assume_one.Statement.{statement}
 use Rattle.assume.proofs.assume_one.Tie as tie
 
 merge-requires : tie.Need-merge-requires
 merge-requires c κs = search needs
 
-abbrev start : tie.After-merge → tie.Start
-start c = c .before .before .before .before .before .before .before
-
 enum-told : tie.Need-enum-told
 enum-told c = search needs
 
 close-requires : tie.Need-close-requires
-unfolding merged
 close-requires c κs =
-    let after = c .before .before .before .before .before .before .before .before .before in
-    let args = start after .args in
-    let merging = after .merge in
-    let ready = goes-ready (args .n) (args .left) (args .right) (args .solved) (args .solved) (args .heads .now) (args .inputs .now) (args .nums .now) (args .dens .now) (merging .last .0) (merging .last .1 .0) (args .sets .now) (merging .last .1 .1 .1 .1 .1 .0) (start after .pre .0 .0) (start after .pre .1 .1 .1 .1 .0) (start after .pre .1 .1 .1 .1 .1) (merging .result) Nothing (c .before .before .before .enum-told .given .1) (merging .ensures .0) refl (merging .ensures .1 .1 .1) in
-    (search needs, (search needs, ((omega (arith, start after .pre .1 .1 .0), omega (arith, start after .pre .1 .1 .0)), (merging .ensures .1 .1 .0, (start after .pre .1 .1 .1 .1 .0, ready)))))
+    let told : tie.After-enum-told = search in
+    let m : tie.After-merge = search in
+    let s : tie.Start = search in
+    assumes-same (s .pre) (m .merge .ensures) (told .enum-told .given .1)
 
 add-placed : tie.Need-add-placed
 add-placed c = search needs
 
 placed-requires : tie.Need-placed-requires
-placed-requires c κs = counted-more _ (search needs) (c .before .before .before .before .close .ensures .1 .1 .1 .0)
+placed-requires c κs =
+    let k : tie.After-close = search in
+    let m : tie.After-merge = search in
+    let s : tie.Start = search in
+    counted-more _ (omega (arith, s .pre .resting .ready .rows .few)) (k .close .ensures .counted)
 
 enum-told-2 : tie.Need-enum-told-2
 enum-told-2 c = search needs
@@ -44,20 +36,21 @@ add-close : tie.Need-add-close
 add-close c = search needs
 
 close-requires-2 : tie.Need-close-requires-2
-unfolding merged
 close-requires-2 c κs =
-    let after = c .before .before .before .before .before .before .before .before .before in
-    let args = start after .args in
-    let merging = after .merge in
-    let one : suc (args .solved) ≡ args .solved + 1 = omega arith in
-    let ready = goes-ready (args .n) (args .left) (args .right) (args .solved) (args .solved + 1) (args .heads .now) (args .inputs .now) (args .nums .now) (args .dens .now) (merging .last .0) (merging .last .1 .0) (args .sets .now) (merging .last .1 .1 .1 .1 .1 .0) (start after .pre .0 .0) (start after .pre .1 .1 .1 .1 .0) (start after .pre .1 .1 .1 .1 .1) (merging .result) Solved (c .before .before .before .enum-told2 .given .1) (merging .ensures .0) (rw one) (merging .ensures .1 .1 .1) in
-    (search needs, (search needs, ((omega (arith, start after .pre .1 .1 .0), omega (arith, start after .pre .1 .1 .0)), (merging .ensures .1 .1 .0, (start after .pre .1 .1 .1 .1 .0, ready)))))
+    let told : tie.After-enum-told2 = search in
+    let m : tie.After-merge = search in
+    let s : tie.Start = search in
+    assumes-more (s .pre) (m .merge .ensures) (told .enum-told2 .given .1)
 
 add-placed-2 : tie.Need-add-placed-2
 add-placed-2 c = search needs
 
 placed-requires-2 : tie.Need-placed-requires-2
-placed-requires-2 c κs = counted-more _ (search needs) (c .before .before .before .before .close2 .ensures .1 .1 .1 .0)
+placed-requires-2 c κs =
+    let k : tie.After-close2 = search in
+    let m : tie.After-merge = search in
+    let s : tie.Start = search in
+    counted-more _ (omega (arith, s .pre .resting .ready .rows .few)) (k .close2 .ensures .counted)
 
 enum-told-3 : tie.Need-enum-told-3
 enum-told-3 c = search needs
@@ -75,32 +68,7 @@ same-length-3 : tie.Need-same-length-3
 same-length-3 c = search needs
 
 returns : tie.Need-returns
-unfolding merged
-returns c =
-    let told = c .before .before .before .before .before .before .before .before .before in
-    let after = told .before .before .before .before .before .before in
-    let args = start after .args in
-    let merging = after .merge in
-    let is = told .enum-told .given .1 in
-    let closing = c .before .before .before .before .before .close in
-    let placing = c .placed in
-    let table = tableAt (args .n) (closing .last .0) (closing .last .1 .0) in
-    let woken = goes-awake (args .n) (args .left) (args .right) (args .solved) (args .solved) (args .heads .now) (args .inputs .now) (args .nums .now) (args .dens .now) (merging .last .0) (merging .last .1 .0) (args .sets .now) (merging .last .1 .1 .1 .1 .1 .0) (start after .pre .0 .0) (start after .pre .1 .1 .1 .1 .0) (start after .pre .1 .1 .1 .1 .1) (merging .result) Nothing is (merging .ensures .0) refl (merging .ensures .1 .1 .1) in (
-      λ terms lookups awake. assumed-closed (args .n) (args .place) (args .left) (args .right) (args .solved) (args .nums .now) (args .dens .now) (merging .last .0) (merging .last .1 .0) (merging .result) (merging .ensures .0) (closing .last .0) (closing .last .1 .0) Nothing is (args .solved) refl (closing .result) (placing .result) (placing .ensures .0) terms (closing .ensures .0 terms lookups (woken terms lookups awake)),
-      (
-        kept-then (merging .ensures .1 .0) (closing .ensures .1 .0),
-        (
-          closing .ensures .1 .1 .0,
-          (
-            placing .ensures .1,
-            (
-              open-going _ (args .place) (closing .result) (placing .result) table (placing .ensures .0 table) (closing .ensures .1 .1 .1 .1 .0),
-              λ terms lookups awake. open-going _ (args .place) (closing .result) (placing .result) table (placing .ensures .0 table) (closing .ensures .1 .1 .1 .1 .1 terms lookups (woken terms lookups awake)),
-            ),
-          ),
-        ),
-      ),
-    )
+returns c = search same-closes
 
 same-length-4 : tie.Need-same-length-4
 same-length-4 c = search needs
@@ -112,33 +80,7 @@ same-length-6 : tie.Need-same-length-6
 same-length-6 c = search needs
 
 returns-2 : tie.Need-returns-2
-unfolding merged
-returns-2 c =
-    let told = c .before .before .before .before .before .before .before .before .before in
-    let after = told .before .before .before .before .before .before in
-    let args = start after .args in
-    let merging = after .merge in
-    let is = told .enum-told2 .given .1 in
-    let closing = c .before .before .before .before .before .close2 in
-    let placing = c .placed2 in
-    let table = tableAt (args .n) (closing .last .0) (closing .last .1 .0) in
-    let one : suc (args .solved) ≡ args .solved + 1 = omega arith in
-    let woken = goes-awake (args .n) (args .left) (args .right) (args .solved) (args .solved + 1) (args .heads .now) (args .inputs .now) (args .nums .now) (args .dens .now) (merging .last .0) (merging .last .1 .0) (args .sets .now) (merging .last .1 .1 .1 .1 .1 .0) (start after .pre .0 .0) (start after .pre .1 .1 .1 .1 .0) (start after .pre .1 .1 .1 .1 .1) (merging .result) Solved is (merging .ensures .0) (rw one) (merging .ensures .1 .1 .1) in (
-      λ terms lookups awake. assumed-closed (args .n) (args .place) (args .left) (args .right) (args .solved) (args .nums .now) (args .dens .now) (merging .last .0) (merging .last .1 .0) (merging .result) (merging .ensures .0) (closing .last .0) (closing .last .1 .0) Solved is (args .solved + 1) (rw one) (closing .result) (placing .result) (placing .ensures .0) terms (closing .ensures .0 terms lookups (woken terms lookups awake)),
-      (
-        kept-then (merging .ensures .1 .0) (closing .ensures .1 .0),
-        (
-          closing .ensures .1 .1 .0,
-          (
-            placing .ensures .1,
-            (
-              open-going _ (args .place) (closing .result) (placing .result) table (placing .ensures .0 table) (closing .ensures .1 .1 .1 .1 .0),
-              λ terms lookups awake. open-going _ (args .place) (closing .result) (placing .result) table (placing .ensures .0 table) (closing .ensures .1 .1 .1 .1 .1 terms lookups (woken terms lookups awake)),
-            ),
-          ),
-        ),
-      ),
-    )
+returns-2 c = search more-closes
 
 same-length-7 : tie.Need-same-length-7
 same-length-7 c = search needs
@@ -150,12 +92,7 @@ same-length-9 : tie.Need-same-length-9
 same-length-9 c = search needs
 
 returns-3 : tie.Need-returns-3
-unfolding AtMost WhileGoing
-returns-3 c =
-    let after = c .before .before .before .before .before .before in
-    let args = start after .args in
-    let merging = after .merge in
-    (λ terms lookups awake. assumed-contradicts (args .n) (args .place) (args .left) (args .right) (args .solved) (args .nums .now) (args .dens .now) (merging .last .0) (merging .last .1 .0) (merging .result) (merging .ensures .0) (c .enum-told3 .given .1) terms, (merging .ensures .1 .0, (merging .ensures .1 .1 .0, (tt, (tt, λ terms lookups awake. tt)))))
+returns-3 c = search assumes-contradicts
 
 same-length-10 : tie.Need-same-length-10
 same-length-10 c = search needs
@@ -167,12 +104,7 @@ same-length-12 : tie.Need-same-length-12
 same-length-12 c = search needs
 
 returns-4 : tie.Need-returns-4
-unfolding AtMost WhileGoing
-returns-4 c =
-    let after = c .before .before .before .before .before .before .before in
-    let args = start after .args in
-    let merging = after .merge in
-    (λ terms lookups awake. assumed-refuses (args .n) (args .place) (args .left) (args .right) (args .solved) (args .nums .now) (args .dens .now) (merging .last .0) (merging .last .1 .0) (merging .result) (merging .ensures .0) _ (c .before .number .given .1) terms, (merging .ensures .1 .0, (merging .ensures .1 .1 .0, (tt, (tt, λ terms lookups awake. tt)))))
+returns-4 c = search assumes-refuses
 
 pub assume-one-spec : {M : Type 1} → statement M
 assume-one-spec =

@@ -7,6 +7,22 @@ use borrow.Author.Needs.{needs}
 use Rattle.decide.proofs.decide.Statement.{statement}
 use Rattle.decide.proofs.decide.Tie as tie
 
+-- the places, each found by its type
+abbrev decide-sound-of-dens : tie.After-dens → tie.After-decide-sound
+decide-sound-of-dens x = search
+
+abbrev header-of-decide-sound-arg2 : tie.After-decide-sound-arg2 → tie.After-header
+header-of-decide-sound-arg2 x = search
+
+abbrev number-of-known-told2 : tie.After-known-told2 → tie.After-number
+number-of-known-told2 x = search
+
+abbrev read-problem-of-decide-sound-arg2 : tie.After-decide-sound-arg2 → tie.After-read-problem
+read-problem-of-decide-sound-arg2 x = search
+
+abbrev read-problem-of-known-told2 : tie.After-known-told2 → tie.After-read-problem
+read-problem-of-known-told2 x = search
+
 returns : tie.Need-returns
 unfolding PLACES SPACE
 returns c =
@@ -25,7 +41,7 @@ enum-known-header c = search needs
 
 decide-sound-requires : tie.Need-decide-sound-requires
 decide-sound-requires c κs =
-    (sym (c .before .before .before .before .before .read-problem .ensures) ∙ c .before .before .before .header .given .1, search needs)
+    (sym (read-problem-of-decide-sound-arg2 c .read-problem .ensures) ∙ header-of-decide-sound-arg2 c .header .given .1, search needs)
 
 enum-known-number : tie.Need-enum-known-number
 enum-known-number c = search needs
@@ -39,12 +55,12 @@ same-length-2 c = search needs
 returns-3 : tie.Need-returns-3
 unfolding PLACES SPACE
 returns-3 c =
-    decided _ _ _ _ (outcome-long _ _ _ (search needs) (search needs) ∙ c .before .before .decide-sound .ensures)
+    decided _ _ _ _ (outcome-long _ _ _ (search needs) (search needs) ∙ decide-sound-of-dens c .decide-sound .ensures)
 
 returns-4 : tie.Need-returns-4
 unfolding PLACES SPACE
 returns-4 c =
-    decided _ _ _ _ (unread-left _ _ _ _ _ (search needs) (search needs) (sym (c .before .before .before .read-problem .ensures) ∙ c .before .number .given .1))
+    decided _ _ _ _ (unread-left _ _ _ _ _ (search needs) (search needs) (sym (read-problem-of-known-told2 c .read-problem .ensures) ∙ number-of-known-told2 c .number .given .1))
 
 pub decide-spec : {M : Type 1} → statement M
 decide-spec =

@@ -6,21 +6,27 @@ use borrow.Author.Needs.{needs}
 use Rattle.decide.proofs.run_all.Statement.{statement}
 use Rattle.decide.proofs.run_all.Tie as tie
 
+abbrev start : tie.After-begin → tie.Start
+start b = search
+
+abbrev begun : tie.After-solved → tie.After-begin
+begun t = search
+
 begin-requires : tie.Need-begin-requires
 begin-requires c κs =
-    let start = c .before .before .before .before .before .before .before .before .before in
-    let noted = start .pre .1 .1 .1 in
-    (start .pre .0, (start .pre .1 .0 .0, (start .pre .1 .1 .0, ((noted .0, noted .1), noted .2))))
+    let s : tie.Start = search in
+    let noted = s .pre .1 .1 .1 in
+    record { held = s .pre .0; terms = s .pre .1 .0 .0; nums-fit = s .pre .1 .1 .0 .0; dens-fit = s .pre .1 .1 .0 .1; heads-size = noted .0; inputs-size = noted .1; sets-size = noted .2 }
 
 enum-known-solved : tie.Need-enum-known-solved
 enum-known-solved c = search needs
 
 assume-all-requires : tie.Need-assume-all-requires
 assume-all-requires c κs =
-    let start = c .before .before .before .before .before .before .before .before .before .before .before .before .before .before .before .before .before .before .before .before .before .before .before .before .before .before in
-    let told = c .before .before .before .before .before .before .solved .given .1 in
-    let begun = c .before .before .before .before .before .before .before .before .before .before .before .before .before .before .before .before .begin .ensures in
-    (going-holds told (begun .1 .1 .0), ((start .pre .1 .0 .1, going-most told (begun .1 .1 .1 .0)), (search needs, search needs)))
+    let told : tie.After-solved = search in
+    let b = begun told in
+    let going = told .solved .given .1 in
+    record { prepared = going-holds going (b .begin .ensures .prepared); pairs = start b .pre .1 .0 .1; few-solved = going-most going (b .begin .ensures .counted) }
 
 enum-known-answer : tie.Need-enum-known-answer
 enum-known-answer c = search needs
@@ -42,10 +48,11 @@ same-length-5 c = search needs
 
 returns : tie.Need-returns
 returns c =
-    let told = c .before .before .before .before .before .before .before .before .before .before .before .solved .given .1 in
-    let begun = c .before .before .before .before .before .before .before .before .before .before .before .before .before .before .before .before .before .before .before .before .before .begin .ensures in
-    let assumed = c .before .before .before .before .assume-all .ensures in
-    (λ problem held. run-goes-on problem _ _ _ _ _ (begun .0 problem held) told (assumed .0 problem held), (kept-then (begun .1 .0) (assumed .1 .0), (while-going _ (assumed .1 .1 .0), assumed .1 .1 .1)))
+    let a : tie.After-assume-all = search in
+    let told : tie.After-solved = search in
+    let begins = begun told .begin .ensures in
+    let assumed = a .assume-all .ensures in
+    (λ problem held. run-goes-on problem _ _ _ _ _ (begins .answers problem held) (told .solved .given .1) (assumed .answers problem held), (kept-then (begins .kept) (assumed .stays .kept), (while-going _ (assumed .stays .sound), assumed .sparse)))
 
 same-length-6 : tie.Need-same-length-6
 same-length-6 c = search needs
@@ -64,9 +71,9 @@ same-length-10 c = search needs
 
 returns-2 : tie.Need-returns-2
 returns-2 c =
-    let told = c .before .answer .given .1 in
-    let begun = c .before .before .before .before .before .before .before .before .before .before .before .begin .ensures in
-    (λ problem held. run-ends problem _ _ _ (begun .0 problem held) told, (begun .1 .0, (ended-holds _ _, ended-holds _ _)))
+    let told : tie.After-answer = search in
+    let b : tie.After-begin = search in
+    (λ problem held. run-ends problem _ _ _ (b .begin .ensures .answers problem held) (told .answer .given .1), (b .begin .ensures .kept, (ended-holds _ _, ended-holds _ _)))
 
 pub run-all-spec : {M : Type 1} → statement M
 run-all-spec =

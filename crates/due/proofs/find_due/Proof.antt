@@ -25,7 +25,7 @@ abbrev Inv-loop : tie.InvT-loop
 Inv-loop nums dens n heads inputs sets waiting₀ rights j₀ waiting j =
     (length waiting ≡ length waiting₀)
     × ((k : ℕ) → holds (getD waiting 64 0) k ≡ true → holds (getD waiting₀ 64 0) k ≡ true)
-    × ((terms : List Term) → Lookups terms n heads inputs → Watched waiting₀ terms n (tableAt n nums dens) sets → Watched waiting terms n (tableAt n nums dens) sets × ((k : ℕ) → k < j → k < n → leftFor terms (tableAt n nums dens) k ≡ none))
+    × ((terms : List Term) → Lookups terms n heads inputs → Watched waiting terms n (tableAt n nums dens) sets × ((k : ℕ) → k < j → k < n → leftFor terms (tableAt n nums dens) k ≡ none))
 
 abbrev μ-loop : tie.MeasureT-loop
 μ-loop nums dens n heads inputs sets waiting₀ rights j₀ waiting j = n - j
@@ -40,7 +40,7 @@ abbrev table-of : tie.Start Inv-loop μ-loop → Table
 table-of s = tableAt (s .args .n) (s .args .nums .now) (s .args .dens .now)
 
 abbrev start : tie.After-open-waiting Inv-loop μ-loop → tie.Start Inv-loop μ-loop
-start r = r .before .before .before .before .before .before
+start r = search
 
 -- no open lookup waits for a right side that is passed over
 idle : (r : tie.After-open-waiting Inv-loop μ-loop) {waiting : List ℕ} {from on : ℕ} → ((k : ℕ) → holds (getD waiting 64 0) k ≡ true → holds (getD (start r .args .waiting .now) 64 0) k ≡ true) → Next (r .open-waiting .result) from on → (k : ℕ) → from ≤ k → k < on → (i : ℕ) → holds (openOf (start r .args .sets .now)) i ≡ true → holds (openOf (start r .args .sets .now)) k ≡ true → Waits waiting i k → ⊥
@@ -49,20 +49,22 @@ idle r fewer next k above short i left right waits =
 
 loop-holds : tie.Need-loop-holds Inv-loop μ-loop
 loop-holds c =
-    let r = c .before in (
+    let r : tie.After-open-waiting Inv-loop μ-loop = search in (
       refl,
       λ k inside. inside,
-      λ terms lookups watched.
-          (watched, rights-passed watched (start r .pre .1 .1 .1 .1 .1 .1) 0 _ (idle r (λ k inside. inside) (c .next .ensures)) (λ k low. absurd (omega arith))),
+      λ terms lookups.
+          let watched = start r .pre .watching .watched terms lookups in
+          (watched, rights-passed watched (start r .pre .asleep) 0 _ (idle r (λ k inside. inside) (c .next .ensures)) (λ k low. absurd (omega arith))),
     )
 
 open-waiting-requires-2 : tie.Need-open-waiting-requires-2 Inv-loop μ-loop
-open-waiting-requires-2 c κs = let sized = c .before .before .loop .inv .0 in search needs
+open-waiting-requires-2 c κs = let h : tie.At-loop Inv-loop μ-loop = search in let sized = h .loop .inv .0 in search needs
 
 left-due-requires : tie.Need-left-due-requires Inv-loop μ-loop
 left-due-requires c κs =
-    let s = start (c .before .before .before .before .before) in
-    (search needs, (search needs, (search needs, (s .pre .1 .1 .1 .0, (s .pre .1 .1 .1 .1 .0, s .pre .1 .1 .1 .1 .1 .0)))))
+    let r : tie.After-open-waiting Inv-loop μ-loop = search in
+    let asked = start r .pre in
+    (search needs, (search needs, (search needs, (asked .rows .sound, (asked .noted .below, asked .rows .sparse)))))
 
 enum-known-left : tie.Need-enum-known-left Inv-loop μ-loop
 enum-known-left c = search needs
@@ -72,43 +74,44 @@ same-length c = search needs
 
 -- the head of the loop in this turn, and the search for the right sides before it
 abbrev head : tie.After-left-due Inv-loop μ-loop → tie.At-loop Inv-loop μ-loop
-head l = l .before .before .before .before
+head l = search
 
 abbrev rights : tie.At-loop Inv-loop μ-loop → tie.After-open-waiting Inv-loop μ-loop
-rights h = h .before .before
+rights h = search
 
 -- the search among the lefts gives the pair due of this right side
-left-is : (l : tie.After-left-due Inv-loop μ-loop) → let h = head l in let s = start (rights h) in (terms : List Term) → Lookups terms (s .args .n) (s .args .heads .now) (s .args .inputs .now) → Watched (s .args .waiting .now) terms (s .args .n) (table-of s) (s .args .sets .now) → leftFor terms (table-of s) (h .loop .j) ≡ pairOf (l .left-due .result)
-left-is l terms lookups watched =
+left-is : (l : tie.After-left-due Inv-loop μ-loop) → let h = head l in let s = start (rights h) in (terms : List Term) → Lookups terms (s .args .n) (s .args .heads .now) (s .args .inputs .now) → leftFor terms (table-of s) (h .loop .j) ≡ pairOf (l .left-due .result)
+left-is l terms lookups =
     let h = head l in
     let s = start (rights h) in
-    let (still, nothing) = h .loop .inv .2 terms lookups watched in
+    let (still, nothing) = h .loop .inv .2 terms lookups in
     let below : h .loop .j < s .args .n = search needs in
-    left-watched still (s .pre .1 .1 .1 .1 .1 .1) (l .before .open-waiting2 .result) (h .loop .j) below (λ i left right waits. l .before .open-waiting2 .ensures i ∙ ap₂ _&&_ (waits .left) left) (λ k low. nothing k low (omega arith))
+    let lefts : tie.After-open-waiting2 Inv-loop μ-loop = search in
+    left-watched still (s .pre .asleep) (lefts .open-waiting2 .result) (h .loop .j) below (λ i left right waits. lefts .open-waiting2 .ensures i ∙ ap₂ _&&_ (waits .left) left) (λ k low. nothing k low (omega arith))
     ∙ l .left-due .ensures .0 terms lookups
 
 returns : tie.Need-returns Inv-loop μ-loop
 unfolding pairOf
 returns c =
-    let l = c .before .before .before in
+    let found : tie.After-left Inv-loop μ-loop = search in
+    let l : tie.After-left-due Inv-loop μ-loop = search in
     let h = head l in
     let s = start (rights h) in
-    let is = c .before .left .given .1 in (
-      λ terms lookups watched.
-          let (still, nothing) = h .loop .inv .2 terms lookups watched in (
-            due-searched terms (table-of s) (s .args .n) (lookups .count)
-                ∙ first-skips (leftFor terms (table-of s)) (s .args .n) 0 (h .loop .j) (omega arith) (λ k above short low. nothing k short low)
-                ∙ first-found _ (s .args .n) (h .loop .j) _ (search needs) (left-is l terms lookups watched ∙ ap pairOf is),
-            still,
-          ),
-      subst (Below (s .args .n)) is (l .left-due .ensures .1),
-    )
+    let is = found .left .given .1 in
+    record {
+      pair = λ terms lookups.
+          due-searched terms (table-of s) (s .args .n) (lookups .count)
+          ∙ first-skips (leftFor terms (table-of s)) (s .args .n) 0 (h .loop .j) (omega arith) (λ k above short low. h .loop .inv .2 terms lookups .1 k short low)
+          ∙ first-found _ (s .args .n) (h .loop .j) _ (search needs) (left-is l terms lookups ∙ ap pairOf is);
+      below = subst (Below (s .args .n)) is (l .left-due .ensures .1);
+      watching = record { watched = λ terms lookups. h .loop .inv .2 terms lookups .0 };
+    }
 
 enum-told : tie.Need-enum-told Inv-loop μ-loop
 enum-told c = search needs
 
 pass-requires : tie.Need-pass-requires Inv-loop μ-loop
-pass-requires c κs = let sized = head (c .before .before .before) .loop .inv .0 in search needs
+pass-requires c κs = let h : tie.At-loop Inv-loop μ-loop = search in let sized = h .loop .inv .0 in search needs
 
 add-next : tie.Need-add-next Inv-loop μ-loop
 add-next c = search needs
@@ -122,9 +125,9 @@ loop-less c = let forward = c .next2 .ensures .forward in search needs
 loop-again : tie.Need-loop-again Inv-loop μ-loop
 unfolding pairOf
 loop-again c =
-    let p = c .before .before .before in
-    let t = p .before .before in
-    let l = t .before .before in
+    let p : tie.After-pass Inv-loop μ-loop = search in
+    let t : tie.After-enum-told Inv-loop μ-loop = search in
+    let l : tie.After-left-due Inv-loop μ-loop = search in
     let h = head l in
     let r = rights h in
     let s = start r in
@@ -136,12 +139,12 @@ loop-again c =
     in (
       passed .same-length ∙ h .loop .inv .0,
       fewer,
-      λ terms lookups watched.
-          let (still, nothing) = h .loop .inv .2 terms lookups watched in
-          let none-here = left-is l terms lookups watched ∙ ap pairOf (t .enum-told .given .1) in
-          let later = watched-passed still j (s .pre .0 .0) passed none-here in (
+      λ terms lookups.
+          let (still, nothing) = h .loop .inv .2 terms lookups in
+          let none-here = left-is l terms lookups ∙ ap pairOf (t .enum-told .given .1) in
+          let later = watched-passed still j (s .pre .rows .few) passed none-here in (
             later,
-            rights-passed later (s .pre .1 .1 .1 .1 .1 .1) (j + 1) _ (idle r fewer (c .next2 .ensures))
+            rights-passed later (s .pre .asleep) (j + 1) _ (idle r fewer (c .next2 .ensures))
                 (λ k low. last-or-before {P = λ k. k < s .args .n → leftFor terms (table-of s) k ≡ none} j (λ inside. none-here) nothing k (omega arith) (omega arith)),
           ),
     )
@@ -152,13 +155,15 @@ same-length-2 c = search needs
 returns-2 : tie.Need-returns-2 Inv-loop μ-loop
 unfolding pairOf Below
 returns-2 c =
-    let h = c .before in
-    let s = start (rights h) in (
-      λ terms lookups watched.
-          let (still, nothing) = h .loop .inv .2 terms lookups watched in
-          (due-searched terms (table-of s) (s .args .n) (lookups .count) ∙ first-nowhere (leftFor terms (table-of s)) (s .args .n) (λ k below. nothing k (search needs) below), still),
-      tt,
-    )
+    let h : tie.At-loop Inv-loop μ-loop = search in
+    let s = start (rights h) in
+    record {
+      pair = λ terms lookups.
+          due-searched terms (table-of s) (s .args .n) (lookups .count)
+          ∙ first-nowhere (leftFor terms (table-of s)) (s .args .n) (λ k below. h .loop .inv .2 terms lookups .1 k (search needs) below);
+      below = tt;
+      watching = record { watched = λ terms lookups. h .loop .inv .2 terms lookups .0 };
+    }
 
 pub find-due-spec : {M : Type 1} → statement M
 find-due-spec =

@@ -8,6 +8,10 @@ use Rattle.bits.specs.Sets.{holds}
 use Rattle.due.proofs.pass.Statement.{statement}
 use Rattle.due.proofs.pass.Tie as tie
 
+-- the places, each found by its type
+abbrev start-of-without : tie.After-without → tie.Start
+start-of-without x = search
+
 slice-read-without : tie.Need-slice-read-without
 slice-read-without c = search needs
 
@@ -28,7 +32,7 @@ same-length c = search needs
 
 returns : tie.Need-returns
 returns c =
-    let start = c .before .before .before in
+    let start = start-of-without c in
     let waiting = start .args .waiting .now in
     let j = start .args .j in
     let rights = c .without .result in

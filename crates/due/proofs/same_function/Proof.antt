@@ -5,6 +5,10 @@ use Rattle.due.proofs.Heads.{no-lookup, one-head}
 use Rattle.due.proofs.same_function.Statement.{statement}
 use Rattle.due.proofs.same_function.Tie as tie
 
+-- the places, each found by its type
+abbrev else1-of-shared-slice-known2 : tie.After-shared-slice-known2 → tie.Else1
+else1-of-shared-slice-known2 x = search
+
 mul-head : tie.Need-mul-head
 mul-head c = search needs
 
@@ -21,7 +25,7 @@ shared-slice-read-result : tie.Need-shared-slice-read-result
 shared-slice-read-result c = search needs
 
 returns-2 : tie.Need-returns-2
-returns-2 c = λ k l hi hj si sj. ap₂ eqb hi hj ∙ one-head k l si sj (λ none. c .before .if1 .left (hi ∙ none))
+returns-2 c = λ k l hi hj si sj. ap₂ eqb hi hj ∙ one-head k l si sj (λ none. else1-of-shared-slice-known2 c .if1 .left (hi ∙ none))
 
 pub same-function-spec : {M : Type 1} → statement M
 same-function-spec =

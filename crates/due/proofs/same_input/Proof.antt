@@ -6,6 +6,13 @@ use Rattle.due.specs.Found.{sameInput}
 use Rattle.due.proofs.same_input.Statement.{statement}
 use Rattle.due.proofs.same_input.Tie as tie
 
+-- the places, each found by its type
+abbrev start-of-shared-slice-known3 : tie.After-shared-slice-known3 → tie.Start
+start-of-shared-slice-known3 x = search
+
+abbrev start-of-shared-slice-known4 : tie.After-shared-slice-known4 → tie.Start
+start-of-shared-slice-known4 x = search
+
 mul-t : tie.Need-mul-t
 mul-t c = search needs
 
@@ -16,7 +23,7 @@ shared-slice-read-t : tie.Need-shared-slice-read-t
 shared-slice-read-t c = search needs
 
 cast-t : tie.Need-cast-t
-cast-t c = omega (arith, c .shared-slice-known3 .given (3 * c .before .before .before .args .i + c .before .before .before .args .k))
+cast-t c = omega (arith, c .shared-slice-known3 .given (3 * start-of-shared-slice-known3 c .args .i + start-of-shared-slice-known3 c .args .k))
 
 mul-u : tie.Need-mul-u
 mul-u c = search needs
@@ -28,11 +35,11 @@ shared-slice-read-u : tie.Need-shared-slice-read-u
 shared-slice-read-u c = search needs
 
 cast-u : tie.Need-cast-u
-cast-u c = omega (arith, c .shared-slice-known4 .given (3 * c .before .before .before .before .args .j + c .before .before .before .before .args .k))
+cast-u c = omega (arith, c .shared-slice-known4 .given (3 * start-of-shared-slice-known4 c .args .j + start-of-shared-slice-known4 c .args .k))
 
 same-row-requires : tie.Need-same-row-requires
 same-row-requires c κs =
-    let start = c .before .before .before .before in
+    let start = start-of-shared-slice-known4 c in
     let rest = start .pre .1 .1 in
     let below = rest .1 .0 .below in
     let left = below (start .args .i) (start .args .k) (search needs) (search needs) in

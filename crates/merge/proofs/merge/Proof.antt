@@ -11,10 +11,14 @@ use Rattle.table.proofs.Turns.{finished-done, finished-refused}
 use Rattle.merge.specs.Outcome.{Unstopped}
 use Rattle.table.proofs.Sparse.{within-left, within-right}
 use Rattle.merge.proofs.Sets.{within-zeros}
-use Rattle.merge.proofs.Steps.{difference-read, difference-made, difference-refused}
+use Rattle.merge.proofs.Steps.{difference-made, difference-refused}
 use borrow.Author.Needs.{needs}
 use Rattle.merge.proofs.merge.Statement.{statement}
 use Rattle.merge.proofs.merge.Tie as tie
+
+-- the places, each from the next
+abbrev start : tie.After-difference → tie.Start
+start made = search
 
 mul-union : tie.Need-mul-union
 mul-union c = search needs
@@ -46,10 +50,10 @@ slice-aggregate-difference-2 c = search needs
 difference-requires : tie.Need-difference-requires
 unfolding columnsOf
 difference-requires c κs =
-    let union = c .before .before .before .before in
-    let start = union .before .before .before .before in
-    let sparse = start .pre .1 .1 .1 in
-    let sound = start .pre .1 .0 in
+    let union : tie.After-union = search in
+    let start : tie.Start = search in
+    let sound = start .pre .rows .sound in
+    let sparse = start .pre .rows .sparse in
     let left = columnsOf (now (start .args .sets)) (start .args .t) in
     let right = columnsOf (now (start .args .sets)) (start .args .u) in (
       omega arith,
@@ -59,7 +63,7 @@ difference-requires c κs =
           sound-fewer _ (omega arith) sound,
           (
             sound-fewer _ (omega arith) sound,
-            (sound-zeros 65, (within-left left right (union .union .ensures) (sparse .within (start .args .t) (start .pre .0 .1)), (within-right left right (union .union .ensures) (sparse .within (start .args .u) (start .pre .0 .2)), within-zeros))),
+            (sound-zeros 65, (within-left left right (union .union .ensures) (sparse .within (start .args .t) (start .pre .left)), (within-right left right (union .union .ensures) (sparse .within (start .args .u) (start .pre .right)), within-zeros))),
           ),
         ),
       ),
@@ -76,15 +80,9 @@ slice-aggregate-settle-2 c = search needs
 
 settle-requires : tie.Need-settle-requires
 settle-requires c κs =
-    let made = c .before .before .before .before .before .before .before .before .before in
-    let start = made .before .before .before .before .before .before .before .before .before in
-    let kept = made .difference .ensures .0 .kept in (
-      (start .pre .0 .0, start .pre .0 .3, start .pre .0 .4),
-      (
-        (omega (arith, kept .nums-length), omega (arith, kept .dens-length)),
-        (start .pre .1 .0, (made .difference .ensures .0 .sound, (start .pre .1 .1, made .difference .ensures .1))),
-      ),
-    )
+    let made : tie.After-difference = search in
+    let start = start made in
+    search needs
 
 enum-known-number : tie.Need-enum-known-number
 enum-known-number c = search needs
@@ -99,16 +97,7 @@ same-length-3 : tie.Need-same-length-3
 same-length-3 c = search needs
 
 returns : tie.Need-returns
-returns c =
-    let settled = c .before .before .before .before .before .before in
-    let told = settled .before .before .before .before .before .before in
-    let made = told .before .before .before .before in
-    let start = made .before .before .before .before .before .before .before .before .before in
-    let a = start .args in (
-      λ solved. difference-made (a .t) (a .u) (tableAt (a .n) (now (a .nums)) (now (a .dens)))
-          (difference-read (a .n) (a .t) (a .u) (now (a .nums)) (now (a .dens)) (start .pre .0 .1) (start .pre .0 .2) ∙ finished-done (made .difference .ensures .0 .ends) (told .enum-told .given .1)) solved ∙ settled .settle .ensures .0 solved,
-      settled .settle .ensures .1,
-    )
+returns c = search (difference-made, finished-done)
 
 same-length-4 : tie.Need-same-length-4
 same-length-4 c = search needs
@@ -117,15 +106,7 @@ same-length-5 : tie.Need-same-length-5
 same-length-5 c = search needs
 
 returns-2 : tie.Need-returns-2
-unfolding Unstopped
-returns-2 c =
-    let made = c .before .before .before .before .before in
-    let start = made .before .before .before .before .before .before .before .before .before in
-    let a = start .args in (
-      difference-refused (a .t) (a .u) (tableAt (a .n) (now (a .nums)) (now (a .dens)))
-          (difference-read (a .n) (a .t) (a .u) (now (a .nums)) (now (a .dens)) (start .pre .0 .1) (start .pre .0 .2) ∙ finished-refused _ (made .difference .ensures .0 .ends) (c .before .number .given .1)) _,
-      (kept-itself 0 (65 * a .n) (now (a .nums)) (now (a .dens)), (start .pre .1 .0, tt)),
-    )
+returns-2 c = search (difference-refused, finished-refused)
 
 pub merge-spec : {M : Type 1} → statement M
 merge-spec =

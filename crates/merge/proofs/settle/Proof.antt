@@ -13,7 +13,7 @@ use Rattle.table.proofs.Columns.{column-first, kept-itself}
 use Rattle.table.proofs.Sparse.{stirred-itself}
 use Rattle.pivot.specs.Pivoted.{pivoted, FoundIn}
 use Rattle.merge.specs.Outcome.{Unstopped}
-use Rattle.merge.proofs.Steps.{settles-nothing, settles-contradiction, settles-solved}
+use Rattle.merge.proofs.Steps.{pivot-at, pivot-nowhere, settles-nothing, settles-contradiction, settles-solved}
 use borrow.Author.Needs.{needs}
 use Rattle.merge.proofs.settle.Statement.{statement}
 use Rattle.merge.proofs.settle.Tie as tie
@@ -27,12 +27,11 @@ enum-known-p c = search needs
 solve-requires : tie.Need-solve-requires
 unfolding FoundIn
 solve-requires c κs =
-    let p = c .before .before .before .before .before .before in
-    let pivot = p .before .before in
-    let start = pivot .before .before .before .before in
-    let rest = start .pre .1 in
+    let p : tie.After-p = search in
+    let pivot : tie.After-pivot = search in
+    let start : tie.Start = search in
     let found = subst (FoundIn (start .args .set)) (p .p .given .1) (pivot .pivot .ensures .1) in
-    ((start .pre .0 .0, found .0, start .pre .0 .1, start .pre .0 .2), (rest .0, (rest .1 .0, (rest .1 .1 .0, (rest .1 .1 .1 .0, (found .1, rest .1 .1 .1 .1))))))
+    record { unknown = found .0; inside = found .1; difference = start .pre }
 
 enum-told : tie.Need-enum-told
 enum-told c = search needs
@@ -47,28 +46,20 @@ same-length-2 : tie.Need-same-length-2
 same-length-2 c = search needs
 
 -- the constant that was read is good, and testing it is testing the difference's last column
-good : (c : tie.After-get) → Good (c .get .result)
-good c = subst Good (sym (c .get .ensures)) (c .before .before .before .before .before .before .before .before .before .pre .1 .1 .1 .0 .good _ (omega arith))
+abbrev begun : tie.After-get → tie.Start
+begun c = search
 
-tested : (c : tie.After-get) → eqℚ (column (rowAt (now (c .before .before .before .before .before .before .before .before .before .args .d-nums)) (now (c .before .before .before .before .before .before .before .before .before .args .d-dens)) 0) constant) zeroℚ ≡ eqℚ (value (c .get .result)) zeroℚ
+good : (c : tie.After-get) → Good (c .get .result)
+good c = subst Good (sym (c .get .ensures)) (begun c .pre .sound .good _ (omega arith))
+
+tested : (c : tie.After-get) → let a = begun c .args in eqℚ (column (rowAt (now (a .d-nums)) (now (a .d-dens)) 0) constant) zeroℚ ≡ eqℚ (value (c .get .result)) zeroℚ
 unfolding constant TERMS
 tested c =
-    let a = c .before .before .before .before .before .before .before .before .before .args in
+    let a = begun c .args in
     ap (λ q. eqℚ q zeroℚ) (column-first (now (a .d-nums)) (now (a .d-dens)) 64 (omega arith) ∙ ap value (sym (c .get .ensures)))
 
 returns : tie.Need-returns
-unfolding pivoted Unstopped
-returns c =
-    let get = c .before .before .before in
-    let told = get .before .before .before in
-    let pivot = told .before .before in
-    let start = pivot .before .before .before .before in
-    let a = start .args in
-    let sound = start .pre .1 .1 .0 in (
-      settles-nothing (rowAt (now (a .d-nums)) (now (a .d-dens)) 0) (tableAt (a .n) (now (a .nums)) (now (a .dens)))
-          (pivot .pivot .ensures .0 ∙ ap pivoted (told .enum-told .given .1)) (tested get ∙ zero-tested (good get) (c .if1 .taken)),
-      (kept-itself 0 (65 * a .n) (now (a .nums)) (now (a .dens)), (sound, (start .pre .1 .1 .1 .1 .0 .1, stirred-itself (a .n) (now (a .nums)) (now (a .dens)) (now (a .sets))))),
-    )
+returns c = let get : tie.After-get = search in let is-zero = tested get ∙ zero-tested (good get) (c .if1 .taken) in search (settles-nothing, pivot-nowhere)
 
 same-length-3 : tie.Need-same-length-3
 same-length-3 c = search needs
@@ -86,16 +77,7 @@ same-length-7 : tie.Need-same-length-7
 same-length-7 c = search needs
 
 returns-2 : tie.Need-returns-2
-unfolding pivoted
-returns-2 c =
-    let done = c .before .before .before .before .before .before in
-    let p = done .before .before .before .before .before .before .before in
-    let pivot = p .before .before in
-    let a = pivot .before .before .before .before .args in (
-      λ solved. settles-solved (rowAt (now (a .d-nums)) (now (a .d-dens)) 0) (tableAt (a .n) (now (a .nums)) (now (a .dens)))
-          (pivot .pivot .ensures .0 ∙ ap pivoted (p .p .given .1)) solved ∙ done .solve .ensures .0 solved,
-      done .solve .ensures .1,
-    )
+returns-2 c = search (settles-solved, pivot-at)
 
 same-length-8 : tie.Need-same-length-8
 same-length-8 c = search needs
@@ -104,17 +86,7 @@ same-length-9 : tie.Need-same-length-9
 same-length-9 c = search needs
 
 returns-3 : tie.Need-returns-3
-unfolding pivoted Unstopped
-returns-3 c =
-    let get = c .before .before .before in
-    let told = get .before .before .before in
-    let pivot = told .before .before in
-    let start = pivot .before .before .before .before in
-    let a = start .args in (
-      settles-contradiction (rowAt (now (a .d-nums)) (now (a .d-dens)) 0) (tableAt (a .n) (now (a .nums)) (now (a .dens)))
-          (pivot .pivot .ensures .0 ∙ ap pivoted (told .enum-told .given .1)) (tested get ∙ other-tested (good get) (c .if1 .left)) _,
-      (kept-itself 0 (65 * a .n) (now (a .nums)) (now (a .dens)), (start .pre .1 .1 .0, tt)),
-    )
+returns-3 c = let get : tie.After-get = search in let is-not = tested get ∙ other-tested (good get) (c .if1 .left) in search (settles-contradiction, pivot-nowhere)
 
 pub settle-spec : {M : Type 1} → statement M
 settle-spec =

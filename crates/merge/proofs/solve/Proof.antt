@@ -20,15 +20,13 @@ enum-told c = search needs
 
 fold-rows-requires : tie.Need-fold-rows-requires
 fold-rows-requires c κs =
-    let form = c .before .before .before .before .before .before .before .before .before in
-    let start = form .before .before .before .before in
-    let rest = start .pre .1 .1 .1 .1 in
-    let kept = form .solve-for .ensures .0 .kept in (
-      start .pre .0,
-      (
-        (omega (arith, kept .nums-length, start .pre .1 .0), omega (arith, kept .dens-length, start .pre .1 .0)),
-        (start .pre .1 .1 .0, (form .solve-for .ensures .0 .sound, (form .solve-for .ensures .1, (rest .1 .0, (rest .0 .0, rest .0 .1))))),
-      ),
+    let form : tie.After-solve-for = search in
+    let start : tie.Start = search in
+    let asked = start .pre .difference in
+    let made = form .solve-for .ensures in
+    let kept = made .0 .kept in (
+      (search needs, search needs, search needs, search needs),
+      ((search needs, search needs), (asked .rows .sound, (made .0 .sound, (made .1, (start .pre .inside, (asked .rows .size, asked .rows .sparse)))))),
     )
 
 enum-told-2 : tie.Need-enum-told-2
@@ -56,17 +54,13 @@ same-length-5 : tie.Need-same-length-5
 same-length-5 c = search needs
 
 returns : tie.Need-returns
-unfolding Unstopped
 returns c =
-    let fold = c .before .before .before .before .before .before in
-    let told = fold .before .before .before .before .before .before in
-    let form = told .before .before .before .before in
-    let a = form .before .before .before .before .args in
+    let fold : tie.After-fold-rows = search in
+    let told : tie.After-enum-told = search in
+    let form : tie.After-solve-for = search in
     let done = fold .fold-rows .ensures in
-    let made = c .enum-told2 .given .1 in (
-      fold-made (a .p) (rowAt (now (a .d-nums)) (now (a .d-dens)) 0) (tableAt (a .n) (now (a .nums)) (now (a .dens))) (finished-done (form .solve-for .ensures .0 .ends) (told .enum-told .given .1)) (finished-done (done .0) made),
-      (done .1 .0, (done .1 .1 .0, (done .1 .1 .1 .0 made, done .1 .1 .1 .1))),
-    )
+    let made = c .enum-told2 .given .1 in
+    fold-made (finished-done (form .solve-for .ensures .0 .ends) (told .enum-told .given .1)) (done .1 .0) (done .1 .1 .0) (done .1 .1 .1 .1) (finished-done (done .0) made) (done .1 .1 .1 .0 made)
 
 same-length-6 : tie.Need-same-length-6
 same-length-6 c = search needs
@@ -84,16 +78,13 @@ same-length-10 : tie.Need-same-length-10
 same-length-10 c = search needs
 
 returns-2 : tie.Need-returns-2
-unfolding Unstopped
 returns-2 c =
-    let fold = c .before .before .before .before .before .before .before in
-    let told = fold .before .before .before .before .before .before in
-    let form = told .before .before .before .before in
-    let a = form .before .before .before .before .args in
-    let done = fold .fold-rows .ensures in (
-      fold-refused (a .p) (rowAt (now (a .d-nums)) (now (a .d-dens)) 0) (tableAt (a .n) (now (a .nums)) (now (a .dens))) (finished-done (form .solve-for .ensures .0 .ends) (told .enum-told .given .1)) (finished-refused _ (done .0) (c .before .number .given .1)) _,
-      (done .1 .0, (done .1 .1 .0, tt)),
-    )
+    let number : tie.After-number = search in
+    let fold : tie.After-fold-rows = search in
+    let told : tie.After-enum-told = search in
+    let form : tie.After-solve-for = search in
+    let done = fold .fold-rows .ensures in
+    fold-refused (finished-done (form .solve-for .ensures .0 .ends) (told .enum-told .given .1)) (done .1 .0) (done .1 .1 .0) (done .1 .1 .1 .1) (finished-refused _ (done .0) (number .number .given .1))
 
 same-length-11 : tie.Need-same-length-11
 same-length-11 c = search needs
@@ -102,14 +93,7 @@ same-length-12 : tie.Need-same-length-12
 same-length-12 c = search needs
 
 returns-3 : tie.Need-returns-3
-unfolding Unstopped
-returns-3 c =
-    let form = c .before .before .before .before .before in
-    let start = form .before .before .before .before in
-    let a = start .args in (
-      form-refused (a .p) (rowAt (now (a .d-nums)) (now (a .d-dens)) 0) (tableAt (a .n) (now (a .nums)) (now (a .dens))) (finished-refused _ (form .solve-for .ensures .0 .ends) (c .before .number2 .given .1)) _,
-      (kept-itself 0 (65 * a .n) (now (a .nums)) (now (a .dens)), (start .pre .1 .1 .0, tt)),
-    )
+returns-3 c = search (form-refused, finished-refused)
 
 pub solve-spec : {M : Type 1} → statement M
 solve-spec =

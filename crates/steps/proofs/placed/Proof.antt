@@ -20,21 +20,23 @@ enum-known-closing-2 c = search needs
 returns : tie.Need-returns
 unfolding because ends closed ran AtMost Counted
 returns c =
-    let start = c .before .before .before in
-    let same = c .before .closing .given .1 in
-    (λ table. ap (λ x. because (ends (start .args .place)) (closed x table)) same, subst (Counted (start .args .most)) same (start .pre))
+    let told : tie.After-closing = search in
+    let start : tie.Start = search in
+    let same = told .closing .given .1 in
+    record { answers = λ table. ap (λ x. because (ends (start .args .place)) (closed x table)) same; counted = subst (Counted (start .args .most)) same (start .pre) }
 
 returns-2 : tie.Need-returns-2
 unfolding because ends closed ran AtMost Counted
 returns-2 c =
-    let start = c .before .before in
-    (λ table. ap (λ x. because (ends (start .args .place)) (closed x table)) (c .enum-told .given .1), tt)
+    let start : tie.Start = search in
+    record { answers = λ table. ap (λ x. because (ends (start .args .place)) (closed x table)) (c .enum-told .given .1); counted = tt }
 
 returns-3 : tie.Need-returns-3
 unfolding because ends closed ran AtMost Counted
 returns-3 c =
-    let start = c .before .before .before in
-    (λ table. ap (λ x. because (ends (start .args .place)) (closed x table)) (c .before .closing2 .given .1), tt)
+    let told : tie.After-closing2 = search in
+    let start : tie.Start = search in
+    record { answers = λ table. ap (λ x. because (ends (start .args .place)) (closed x table)) (told .closing2 .given .1); counted = tt }
 
 pub placed-spec : {M : Type 1} → statement M
 placed-spec =

@@ -32,8 +32,10 @@ has-requires c κs = search needs
 returns : tie.Need-returns
 unfolding earlierOf pendingOf openOf
 returns c i =
-    let pending = sym (c .before .has .ensures) ∙ c .if1 .taken in
-    rw (pending, or-true, and-true) (c .before .before .before .common .ensures i)
+    let tested : tie.After-has = search in
+    let both : tie.After-common = search in
+    let pending = sym (tested .has .ensures) ∙ c .if1 .taken in
+    rw (pending, or-true, and-true) (both .common .ensures i)
 
 common-requires-2 : tie.Need-common-requires-2
 common-requires-2 c κs = search needs
@@ -41,9 +43,12 @@ common-requires-2 c κs = search needs
 returns-2 : tie.Need-returns-2
 unfolding earlierOf pendingOf openOf
 returns-2 c i =
-    let asleep = sym (c .before .before .has .ensures) ∙ c .before .if1 .left in
-    let sets = c .before .before .before .before .before .before .before .before .args .sets .now in
-    rw (asleep, or-false) (c .common2 .ensures i ∙ ap (λ b. b && holds (getD sets 192 0) i) (c .before .before .before .before .common .ensures i))
+    let other : tie.Else1 = search in
+    let tested : tie.After-has = search in
+    let both : tie.After-common = search in
+    let start : tie.Start = search in
+    let asleep = sym (tested .has .ensures) ∙ other .if1 .left in
+    rw (asleep, or-false) (c .common2 .ensures i ∙ ap (λ b. b && holds (getD (start .args .sets .now) 192 0) i) (both .common .ensures i))
 
 pub candidates-spec : {M : Type 1} → statement M
 candidates-spec =

@@ -13,9 +13,9 @@ candidates-requires : tie.Need-candidates-requires
 candidates-requires c κs = search needs
 
 returns : tie.Need-returns
-returns c = (
+returns c = let looked : tie.After-candidates = search in (
   grown-itself _,
-  λ i is. let found = c .before .candidates in absurd (false≢true (sym (holds-none i) ∙ ap (λ s. holds s i) (sym (c .if1 .taken)) ∙ found .ensures i ∙ is)),
+  λ i is. let found = looked .candidates in absurd (false≢true (sym (holds-none i) ∙ ap (λ s. holds s i) (sym (c .if1 .taken)) ∙ found .ensures i ∙ is)),
 )
 
 mul-union : tie.Need-mul-union
@@ -47,9 +47,9 @@ same-length c = search needs
 
 returns-2 : tie.Need-returns-2
 returns-2 c =
-    let union = c .before .before in
-    let found = union .before .before .before in
-    let start = found .before .before .before in
+    let union : tie.After-union = search in
+    let found : tie.After-candidates = search in
+    let start : tie.Start = search in
     let noted = right-noted (start .args .waiting .now) (start .args .j) (union .union .result) (c .with .result) (found .candidates .result) (start .pre .0) (start .pre .2) (union .union .ensures) (c .with .ensures) in
     (noted .0, λ i is. noted .1 i (found .candidates .ensures i ∙ is))
 

@@ -20,6 +20,6 @@ fn stored_files_are_what_is_printed() {
     let programs = [env!("CARGO_BIN_EXE_run_cases"), env!("CARGO_BIN_EXE_families")];
     for what in ["stdin", "stdout"] {
         let both: Vec<u8> = programs.iter().flat_map(|program| printed(program, what)).collect();
-        assert!(stored(what) == both, "crates/run_cases/{what}");
+        assert!(stored(what) == both, "crates/try_problems/{what}");
     }
 }

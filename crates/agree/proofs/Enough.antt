@@ -12,10 +12,10 @@ use lib.ListN.{length, take}
 use lib.Seq.{length-take-le, take-all}
 use Rattle.answer.specs.Refusals.{Refusal, SHORT, COUNT, LENGTH}
 use Rattle.fraction.specs.Made.{Made}
-use Rattle.problem.specs.Bits.{bitAt, field}
-use Rattle.problem.specs.Problem.{Problem, refuse, need, decoded}
-use Rattle.outcome.specs.Outcome.{afterReading, decision}
-use Rattle.listing.specs.Listing.{listed, listing}
+use Rattle.rules_problem.specs.Bits.{bitAt, field}
+use Rattle.rules_problem.specs.Problem.{Problem, refuse, need, decoded}
+use Rattle.rules_outcome.specs.Outcome.{afterReading, decision}
+use Rattle.rules_listing.specs.Listing.{listed, listing}
 
 -- whether n and m lie within their limits
 counts : (n m : ℕ) → Bool

@@ -20,21 +20,21 @@ use Rattle.fraction.specs.Made.{Made, made, stopped, _>>=_}
 use Rattle.fraction.proofs.Answers.{Answers, if-made, if-stopped, answers-made, answers-with, answers-bind, answers-because, answers-tab}
 use Rattle.fraction.proofs.Bounded.{tested-made, within-limits}
 use Rattle.fraction.proofs.Making.{tab-length, tab-member}
-use Rattle.arithmetic.proofs.Lowest.{frac-size, frac-den}
-use Rattle.problem.specs.declared.Kind.{Kind}
-use Rattle.problem.specs.declared.Kind.the-variants.{Variable, Constant, Gain, Sum, Difference, Lookup1, Lookup2, Lookup3}
-use Rattle.problem.specs.declared.Term.{Term}
-use Rattle.problem.specs.Lookup.{kindAt}
-use Rattle.problem.specs.Problem.{Pair, Problem, decoded}
-use Rattle.problem.proofs.Holding.{terms-count, term-there}
-use Rattle.run.specs.Row.{Row, Table, TERMS, COLUMNS, constant, column, rowOf, cell, row}
-use Rattle.run.specs.Build.{alone, builtColumn, built}
-use Rattle.run.specs.Merge.{State, Stop, contradiction, outside, pivot, foldedColumn, folded, solve, settle, merge}
-use Rattle.run.specs.Close.{due, closeFor, close}
-use Rattle.run.specs.Run.{ends, assume, begin, run}
-use Rattle.invariant.proofs.Steps.{row-made, cell-past}
-use Rattle.build_rows.specs.Buildable.{Written, Holding}
-use Rattle.build.proofs.Decoded.{term-buildable}
+use Rattle.fraction_reduce.proofs.Lowest.{frac-size, frac-den}
+use Rattle.rules_problem.specs.declared.Kind.{Kind}
+use Rattle.rules_problem.specs.declared.Kind.the-variants.{Variable, Constant, Gain, Sum, Difference, Lookup1, Lookup2, Lookup3}
+use Rattle.rules_problem.specs.declared.Term.{Term}
+use Rattle.rules_problem.specs.Lookup.{kindAt}
+use Rattle.rules_problem.specs.Problem.{Pair, Problem, decoded}
+use Rattle.rules_problem.proofs.Holding.{terms-count, term-there}
+use Rattle.rules_run.specs.Row.{Row, Table, TERMS, COLUMNS, constant, column, rowOf, cell, row}
+use Rattle.rules_run.specs.Build.{alone, builtColumn, built}
+use Rattle.rules_run.specs.Merge.{State, Stop, contradiction, outside, pivot, foldedColumn, folded, solve, settle, merge}
+use Rattle.rules_run.specs.Close.{due, closeFor, close}
+use Rattle.rules_run.specs.Run.{ends, assume, begin, run}
+use Rattle.laws_invariant.proofs.Steps.{row-made, cell-past}
+use Rattle.run_build_row.specs.Buildable.{Written, Holding}
+use Rattle.run_build.proofs.Decoded.{term-buildable}
 
 -- each fraction of a row is within the limits,
 pub record LimitedRow (r : Row) : Type 0 where

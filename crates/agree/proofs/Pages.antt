@@ -10,16 +10,15 @@ use lib.Seq.{length-take-le, drop-cons}
 use lib.IntN.{ℤ}
 use Rattle.answer.specs.declared.Answer.{Answer}
 use Rattle.fraction.specs.Made.{made}
-use Rattle.run.specs.Row.{Table, TERMS, rowOf, cell}
-use Rattle.outcome.specs.Outcome.{PLACES}
-use Rattle.listing.specs.Line.{firstLine, rowLine}
-use Rattle.listing.specs.Listing.{rowLines, Listed, putAt, listRow}
-use Rattle.text.proofs.Placing.{put-at-then, wrote-nothing}
-use Rattle.places.specs.Listable.{Listable, rowHeld}
-use Rattle.lines.specs.Leaves.{reachedOf, leaves, listFirst}
-use Rattle.row_line.proofs.Lines.{row-line-length}
-use Rattle.lines.proofs.Refused.{row-listed, first-listed}
-use Rattle.page.specs.Page.{rowsListed, behind, listRows, listPage}
+use Rattle.rules_run.specs.Row.{Table, TERMS, rowOf, cell, PLACES}
+use Rattle.rules_listing.specs.Line.{firstLine, rowLine}
+use Rattle.rules_listing.specs.Listing.{rowLines, Listed, putAt, listRow}
+use Rattle.list_text.proofs.Placing.{put-at-then, wrote-nothing}
+use Rattle.list_fractions.specs.Listable.{Listable, rowHeld}
+use Rattle.list_lines.specs.Leaves.{reachedOf, leaves, listFirst}
+use Rattle.list_row_line.proofs.Lines.{row-line-length}
+use Rattle.list_lines.proofs.Refused.{row-listed, first-listed}
+use Rattle.list_page.specs.Page.{rowsListed, behind, listRows, listPage}
 use Rattle.agree.proofs.Limits.{Limited}
 use Rattle.agree.proofs.Rows.{numeratorsOf, denominatorsOf, row-listable, row-line}
 
@@ -118,7 +117,6 @@ module _ (table : Table) (numerators denominators : List ℤ) (limited : Limited
 
   -- With a row for each term of the table it is the first line and theirs: 65 lines at most.
   pub first-then-rows : (answer : Answer) (n : ℕ) (buffer : List ℕ) → rowsListed answer n ≡ length table → length (firstLine answer) ≤ 2048 → 133120 ≤ length buffer → listPage nums dens answer n 0 buffer ≡ put (firstLine answer ++ rowLines 0 table) 0 buffer
-  unfolding TERMS
   first-then-rows answer n buffer all short room =
       let line = firstLine answer in
       let kept = put-length 0 line buffer (omega arith) in

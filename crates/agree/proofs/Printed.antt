@@ -16,28 +16,28 @@ use Rattle.answer.specs.declared.Answer.the-variants.{Entailed, NotEntailed, Co
 use Rattle.answer.specs.Refusals.{Refusal, SPACE}
 use Rattle.answer.specs.Said.{said}
 use Rattle.fraction.specs.Made.{Made, made, stopped}
-use Rattle.problem.specs.Bits.{field}
-use Rattle.problem.specs.Lookup.{kindAt}
-use Rattle.problem.specs.Problem.{Pair, Problem, decoded}
-use Rattle.problem.proofs.Holding.{terms-count}
-use Rattle.valuation.specs.Sound.{Sound}
-use Rattle.valuation.proofs.Decoded.{decoded-sound}
-use Rattle.run.specs.Row.{TERMS, sameRow}
-use Rattle.run.specs.Merge.{State}
-use Rattle.run.specs.Run.{byNumber, run, judged}
-use Rattle.invariant.specs.Invariant.{OneToOne, isUnknown, Ended}
-use Rattle.invariant.proofs.Count.{count-below}
-use Rattle.invariant.proofs.Granted.{by-number-one-to-one, sound-shaped, sound-sides}
-use Rattle.invariant.proofs.Run.{run-finished, run-stopped, run-count}
-use Rattle.outcome.specs.Outcome.{unread, cutShort, finished, afterRun, afterReading, decision, answered, PLACES, Outcome, after, outcome}
-use Rattle.outcome.proofs.Decided.{outcome-long-enough}
-use Rattle.finish.specs.Leaves.{leaves}
+use Rattle.rules_problem.specs.Bits.{field}
+use Rattle.rules_problem.specs.Lookup.{kindAt}
+use Rattle.rules_problem.specs.Problem.{Pair, Problem, decoded}
+use Rattle.rules_problem.proofs.Holding.{terms-count}
+use Rattle.laws_valuation.specs.Sound.{Sound}
+use Rattle.laws_valuation.proofs.Decoded.{decoded-sound}
+use Rattle.rules_run.specs.Row.{TERMS, sameRow, PLACES}
+use Rattle.rules_run.specs.Merge.{State}
+use Rattle.rules_run.specs.Run.{byNumber, run, judged}
+use Rattle.laws_invariant.specs.Invariant.{OneToOne, isUnknown, Ended}
+use Rattle.laws_invariant.proofs.Count.{count-below}
+use Rattle.laws_invariant.proofs.Granted.{by-number-one-to-one, sound-shaped, sound-sides}
+use Rattle.laws_invariant.proofs.Run.{run-finished, run-stopped, run-count}
+use Rattle.rules_outcome.specs.Outcome.{unread, cutShort, finished, afterRun, afterReading, decision, answered, Outcome, after, outcome}
+use Rattle.rules_outcome.proofs.Decided.{outcome-long-enough}
+use Rattle.run_finish.specs.Leaves.{leaves}
 use Rattle.decide.specs.Decided.{Decided}
-use Rattle.listing.specs.Text.{ascii}
-use Rattle.listing.specs.Line.{wordsOf, firstLine}
-use Rattle.listing.specs.Listing.{listed, listing, putAt, Listed}
-use Rattle.decimal.proofs.Decimal.{decimal-length}
-use Rattle.page.specs.Page.{rowsListed, endOf, pageOf, Paged}
+use Rattle.rules_listing.specs.Text.{ascii}
+use Rattle.rules_listing.specs.Line.{wordsOf, firstLine}
+use Rattle.rules_listing.specs.Listing.{listed, listing, putAt, Listed}
+use Rattle.list_decimal.proofs.Decimal.{decimal-length}
+use Rattle.list_page.specs.Page.{rowsListed, endOf, pageOf, Paged}
 use Rattle.agree.proofs.Limits.{run-limited}
 use Rattle.agree.proofs.Pages.{put, first-alone, first-then-rows}
 
@@ -102,7 +102,7 @@ module _ (rank : ℕ → ℕ) (one-to-one : OneToOne rank) (bytes : List ℕ) (n
           first-alone _ _ answer (field bytes 0 8) buffer none (omega arith)
 
       finished-listed : (state : State) → run rank problem ≡ made state → pageFor (after (finished (judged (problem .goal) state) (state .table)) numerators denominators) ≡ put (listed (finished (judged (problem .goal) state) (state .table))) 0 buffer
-      unfolding pageOf listed after TERMS
+      unfolding pageOf listed after
       finished-listed state h =
           let complete = run-finished rank problem one-to-one (sound-shaped problem sound) (sound-sides problem sound) state h in
           let count = run-count rank problem one-to-one (sound-shaped problem sound) (sound-sides problem sound) state h in
@@ -133,7 +133,7 @@ take-put : (text buffer : List ℕ) → take (0 + length text) (putAt 0 text buf
 unfolding putAt
 take-put text buffer = take-at text (drop (0 + length text) buffer) (0 + length text) (omega arith)
 
--- From the contracts of `decide::decide` and `page::listing_of` alone: the bytes that a program writes which calls the one, with lists that
+-- From the contracts of `decide::decide` and `list_page::listing_of` alone: the bytes that a program writes which calls the one, with lists that
 -- are long enough, and then the other, with what the first left and a buffer of 133,120 bytes, are the rules' listing.
 pub calls-print : (bytes : List ℕ) (nums dens nums′ dens′ : List ℤ) (answer : Answer) (before text : List ℕ) (end : ℕ) → PLACES ≤ length nums → PLACES ≤ length dens → 133120 ≤ length before → Decided bytes nums dens (leaves answer nums′ dens′) → Paged nums′ dens′ bytes answer before text end → take end text ≡ listing byNumber bytes
 unfolding put endOf

@@ -12,17 +12,17 @@ use Rattle.whole.specs.Gcd.{gcd}
 use Rattle.fraction.specs.Exact.{ℚ, frac}
 use Rattle.fraction.specs.Limits.{limit, within}
 use Rattle.fraction.proofs.Bounded.{within-limits}
-use Rattle.arithmetic.proofs.Lowest.{ℚ-same, lowest-num, lowest-den}
-use Rattle.run.specs.Row.{Table, TERMS, COLUMNS, rowOf, cell}
-use Rattle.outcome.specs.Outcome.{PLACES, laidOut}
-use Rattle.outcome.proofs.Laid.{overwritten-length}
-use Rattle.outcome.proofs.Cells.{laid-out-at}
-use Rattle.listing.specs.Text.{ascii, decimal}
-use Rattle.listing.specs.Line.{piece, pieces, orZero, rowLine}
-use Rattle.listing.specs.Listing.{isFraction, allFractions, placesOf}
-use Rattle.places.specs.Listable.{Listable, rowHeld}
-use Rattle.places.proofs.Places.{places-length, places-at}
-use Rattle.pieces.proofs.Rows.{row-pieces-step}
+use Rattle.fraction_reduce.proofs.Lowest.{ℚ-same, lowest-num, lowest-den}
+use Rattle.rules_run.specs.Row.{Table, TERMS, COLUMNS, rowOf, cell, PLACES}
+use Rattle.rules_outcome.specs.Outcome.{laidOut}
+use Rattle.rules_outcome.proofs.Laid.{overwritten-length}
+use Rattle.rules_outcome.proofs.Cells.{laid-out-at}
+use Rattle.rules_listing.specs.Text.{ascii, decimal}
+use Rattle.rules_listing.specs.Line.{piece, pieces, orZero, rowLine}
+use Rattle.rules_listing.specs.Listing.{isFraction, allFractions, placesOf}
+use Rattle.list_fractions.specs.Listable.{Listable, rowHeld}
+use Rattle.list_fractions.proofs.Places.{places-length, places-at}
+use Rattle.list_pieces.proofs.Rows.{row-pieces-step}
 use Rattle.agree.proofs.Limits.{Limited}
 
 -- A fraction within the limits passes the test of a place,

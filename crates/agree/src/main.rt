@@ -1,12 +1,12 @@
 // The program: one problem from standard input, its listing on standard output. That the bytes are read and written no contract can say.
 
-use page::PAGE;
-use problem::PLACES;
+use list_page::PAGE;
+use rules_problem::PLACES;
 ghost use mathlib.Core.Path.{_≡_};
 ghost use Prim.Native.Nat.{_≤_};
 ghost use lib.ListN.{length, take};
-ghost use Rattle.run.specs.Run.{byNumber};
-ghost use Rattle.listing.specs.Listing.{listing};
+ghost use Rattle.rules_run.specs.Run.{byNumber};
+ghost use Rattle.rules_listing.specs.Listing.{listing};
 
 // 01, The listing: "645 bytes are enough to judge any length".
 const INPUT: usize = 645;
@@ -20,7 +20,7 @@ fn list(bytes: &[u8], text: &mut [u8]) -> usize
     let mut nums = [0i32; PLACES];
     let mut dens = [0i32; PLACES];
     let answer = decide::decide(bytes, &mut nums, &mut dens);
-    page::listing_of(text, bytes, answer, &nums, &dens)
+    list_page::listing_of(text, bytes, answer, &nums, &dens)
 }
 
 fn main() {

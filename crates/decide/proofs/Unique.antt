@@ -5,8 +5,8 @@ use mathlib.Core.List.{List}
 use Prim.Native.Nat.{ℕ}
 use lib.IntN.{ℤ}
 use Rattle.answer.specs.declared.Answer.{Answer}
-use Rattle.finish.specs.Leaves.{leaves}
-use Rattle.finish.proofs.Unique.{leaves-one}
+use Rattle.run_finish.specs.Leaves.{leaves}
+use Rattle.run_finish.proofs.Unique.{leaves-one}
 use Rattle.decide.specs.Decided.{Decided}
 
 -- Two answers, with the lists that they leave, that both satisfy the contract for one byte string and the same lent lists are

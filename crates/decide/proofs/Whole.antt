@@ -14,26 +14,26 @@ use Rattle.answer.specs.declared.Answer.{Answer}
 use Rattle.answer.specs.declared.Answer.the-variants.{Refused}
 use Rattle.answer.specs.Refusals.{Refusal, SPACE}
 use Rattle.fraction.specs.Made.{Made, made, stopped, _>>=_}
-use Rattle.problem.specs.Problem.{Problem, decoded}
-use Rattle.run.specs.Row.{Table, cell}
-use Rattle.run.specs.Merge.{State}
-use Rattle.run.specs.Run.{byNumber, begin, assume, run, judged}
-use Rattle.problem.specs.Bits.{field}
-use Rattle.reader.specs.declared.Header.{Header}
-use Rattle.reader.specs.Reads.{headerOf, readAs, readOf}
-use Rattle.problem.proofs.Holding.{holding, terms-count, pairs-count, goal-there}
-use Rattle.reader.proofs.Holding.{read-held}
-use Rattle.reader.specs.declared.Read.the-variants as read
-use Rattle.table.specs.Held.{tableAt}
-use Rattle.table.specs.Loop.{Kept}
-use Rattle.steps.specs.Ran.{ran, AtMost, WhileGoing}
-use Rattle.steps.specs.declared.Ran.{Ran}
-use Rattle.steps.specs.declared.Ran.the-variants.{Going, Ended}
-use Rattle.outcome.specs.Outcome.{PLACES, Outcome, Decision, unread, cutShort, finished, afterRun, afterReading, decision, answered, overwritten, laidOut, after, outcome}
-use Rattle.outcome.proofs.Laid.{overwritten-length, overwritten-below, overwritten-beyond, overwritten-is}
-use Rattle.finish.specs.Leaves.{leaves}
-use Rattle.verdict.specs.Demands.{Truthful}
-use Rattle.truth.proofs.Truthful.{outcome-truthful}
+use Rattle.rules_problem.specs.Problem.{Problem, decoded}
+use Rattle.rules_run.specs.Row.{Table, cell, PLACES}
+use Rattle.rules_run.specs.Merge.{State}
+use Rattle.rules_run.specs.Run.{byNumber, begin, assume, run, judged}
+use Rattle.rules_problem.specs.Bits.{field}
+use Rattle.record_reader.specs.declared.Header.{Header}
+use Rattle.record_reader.specs.Reads.{headerOf, readAs, readOf}
+use Rattle.rules_problem.proofs.Holding.{holding, terms-count, pairs-count, goal-there}
+use Rattle.record_reader.proofs.Holding.{read-held}
+use Rattle.record_reader.specs.declared.Read.the-variants as read
+use Rattle.run_table.specs.Held.{tableAt}
+use Rattle.run_table.specs.Loop.{Kept}
+use Rattle.run_progress.specs.Ran.{ran, AtMost, WhileGoing}
+use Rattle.run_progress.specs.declared.Ran.{Ran}
+use Rattle.run_progress.specs.declared.Ran.the-variants.{Going, Ended}
+use Rattle.rules_outcome.specs.Outcome.{Outcome, Decision, unread, cutShort, finished, afterRun, afterReading, decision, answered, overwritten, laidOut, after, outcome}
+use Rattle.rules_outcome.proofs.Laid.{overwritten-length, overwritten-below, overwritten-beyond, overwritten-is}
+use Rattle.run_finish.specs.Leaves.{leaves}
+use Rattle.rules_demands.specs.Demands.{Truthful}
+use Rattle.laws_truth.proofs.Truthful.{outcome-truthful}
 use Rattle.decide.specs.Decided.{Decided}
 
 -- The run goes on from its beginning with the assumptions.
@@ -59,11 +59,9 @@ laid-kept g before now′ same beyond =
 
 module _ (n : ℕ) (few : n ≤ 64) (nums dens nums′ dens′ : List ℤ) (kept : Kept 0 (65 * n) nums dens nums′ dens′) where
   kept-nums : (p : ℕ) → PLACES ≤ p → getD nums′ p (pos 0) ≡ getD nums p (pos 0)
-  unfolding PLACES
   kept-nums p far = ap (λ f. f .num) (kept .outside p (inr (omega arith)))
 
   kept-dens : (p : ℕ) → PLACES ≤ p → getD dens′ p (pos 0) ≡ getD dens p (pos 0)
-  unfolding PLACES
   kept-dens p far = ap (λ f. f .den) (kept .outside p (inr (omega arith)))
 
   -- The outcome of a run is the same from the lists lent as from the lists that it has worked on.

@@ -6,10 +6,11 @@ use Prim.Native.Nat.{ℕ, _≤_}
 use lib.ListN.{length}
 use lib.IntN.{ℤ}
 use Rattle.fraction.specs.Made.{made}
-use Rattle.problem.specs.Problem.{Problem, decoded}
-use Rattle.run.specs.Run.{byNumber}
-use Rattle.outcome.specs.Outcome.{PLACES, Outcome, outcome}
-use Rattle.verdict.specs.Demands.{Truthful}
+use Rattle.rules_problem.specs.Problem.{Problem, decoded}
+use Rattle.rules_run.specs.Run.{byNumber}
+use Rattle.rules_run.specs.Row.{PLACES}
+use Rattle.rules_outcome.specs.Outcome.{Outcome, outcome}
+use Rattle.rules_demands.specs.Demands.{Truthful}
 
 -- For the byte string and the lists lent: what comes back is what the rules lay down (demand 1), and of each sound problem it
 -- is true (demand 2).

@@ -1,29 +1,29 @@
 // The decider: bytes and two lent lists in, the answer out, for every byte string and every length of either list.
 use answer::Answer;
 use answer::SPACE;
-use problem::PLACES;
-use problem::TERMS;
-use reader::Header;
-use reader::Read;
-use steps::Ran;
-use table::OPEN;
+use rules_problem::PLACES;
+use rules_problem::TERMS;
+use record_reader::Header;
+use record_reader::Read;
+use run_progress::Ran;
+use run_table::OPEN;
 ghost use mathlib.Core.Path.{_≡_};
 ghost use Prim.Native.Nat.{_*_, _<_, _≤_};
 ghost use lib.ListN.{length};
 ghost use Rattle.fraction.specs.Made.{made};
-ghost use Rattle.problem.specs.Bits.{field};
-ghost use Rattle.problem.specs.Problem.{Problem, decoded};
-ghost use Rattle.reader.specs.Held.{Held};
-ghost use Rattle.reader.specs.Reads.{readOf};
-ghost use Rattle.reader.specs.declared.Read.the-variants as read;
-ghost use Rattle.run.specs.Run as rule;
-ghost use Rattle.run.specs.Run.{byNumber};
-ghost use Rattle.table.specs.Held.{tableAt, SoundTo};
-ghost use Rattle.table.specs.Loop.{Kept};
-ghost use Rattle.table.specs.Sparse.{Sparse};
-ghost use Rattle.steps.specs.Ran.{ran, WhileGoing};
-ghost use Rattle.outcome.specs.Outcome.{decision, after};
-ghost use Rattle.finish.specs.Leaves.{leaves};
+ghost use Rattle.rules_problem.specs.Bits.{field};
+ghost use Rattle.rules_problem.specs.Problem.{Problem, decoded};
+ghost use Rattle.record_reader.specs.Held.{Held};
+ghost use Rattle.record_reader.specs.Reads.{readOf};
+ghost use Rattle.record_reader.specs.declared.Read.the-variants as read;
+ghost use Rattle.rules_run.specs.Run as rule;
+ghost use Rattle.rules_run.specs.Run.{byNumber};
+ghost use Rattle.run_table.specs.Held.{tableAt, SoundTo};
+ghost use Rattle.run_table.specs.Loop.{Kept};
+ghost use Rattle.run_table.specs.Sparse.{Sparse};
+ghost use Rattle.run_progress.specs.Ran.{ran, WhileGoing};
+ghost use Rattle.rules_outcome.specs.Outcome.{decision, after};
+ghost use Rattle.run_finish.specs.Leaves.{leaves};
 ghost use Rattle.decide.specs.Decided.{Decided};
 
 // 01, The run: built and closed, then each assumption.
@@ -46,8 +46,8 @@ fn run_all(
     ensures { λ r. ⌜ WhileGoing (SoundTo (65 * n) (now (nums .exit)) (now (dens .exit))) r ⌝ }
     ensures { λ r. ⌜ WhileGoing (Sparse n (now (nums .exit)) (now (sets .exit))) r ⌝ }
 {
-    match begin::begin(bytes, n, nums, dens, heads, inputs, sets) {
-        Ran::Going(solved) => assume::assume_all(
+    match run_begin::begin(bytes, n, nums, dens, heads, inputs, sets) {
+        Ran::Going(solved) => run_assume::assume_all(
             bytes,
             n,
             m,
@@ -82,7 +82,7 @@ fn decide_sound(bytes: &[u8], header: Header, nums: &mut [i32], dens: &mut [i32]
         &mut inputs,
         &mut sets,
     ) {
-        Ran::Going(solved) => finish::with_rows(
+        Ran::Going(solved) => run_finish::with_rows(
             nums,
             dens,
             n,
@@ -91,7 +91,7 @@ fn decide_sound(bytes: &[u8], header: Header, nums: &mut [i32], dens: &mut [i32]
             &sets,
             solved,
         ),
-        Ran::Ended(answer) => finish::cleared(nums, dens, answer),
+        Ran::Ended(answer) => run_finish::cleared(nums, dens, answer),
     }
 }
 
@@ -112,7 +112,7 @@ pub fn decide(bytes: &[u8], nums: &mut [i32], dens: &mut [i32]) -> Answer
             place: 0,
         };
     }
-    match reader::read_problem(bytes) {
+    match record_reader::read_problem(bytes) {
         Read::Sound(header) => decide_sound(bytes, header, nums, dens),
         Read::Refused { number, place } => Answer::Refused {
             number: number,

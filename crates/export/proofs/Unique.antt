@@ -5,9 +5,9 @@ use mathlib.Core.List.{List}
 use Prim.Native.Nat.{ℕ}
 use lib.IntN.{ℤ}
 use Rattle.decide.proofs.Unique.{decide-unique}
-use Rattle.lines.proofs.Unique.{list-row-at-unique}
-use Rattle.in_numbers.specs.declared.Told.{Told}
-use Rattle.in_numbers.specs.Told.{told}
+use Rattle.list_lines.proofs.Unique.{list-row-at-unique}
+use Rattle.answer_numbers.specs.declared.Told.{Told}
+use Rattle.answer_numbers.specs.Told.{told}
 use Rattle.export.specs.Handed.{placeOf, numberOf, Handed, Listed}
 
 -- Two answers in numbers, with the lists that they leave, for one byte string and the same lent lists.

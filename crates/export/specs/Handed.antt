@@ -5,14 +5,14 @@ use mathlib.Core.List.{List}
 use Prim.Native.Nat.{ℕ}
 use lib.IntN.{ℤ}
 use Rattle.answer.specs.declared.Answer.{Answer}
-use Rattle.finish.specs.Leaves.{leaves}
+use Rattle.run_finish.specs.Leaves.{leaves}
 use Rattle.decide.specs.Decided.{Decided}
-use Rattle.listing.specs.Listing.{listRow}
-use Rattle.lines.specs.Leaves as lines
-use Rattle.lines.specs.declared.Reached.{Reached}
-use Rattle.lines.specs.declared.Reached.the-variants as reach
-use Rattle.in_numbers.specs.declared.Told.{Told}
-use Rattle.in_numbers.specs.Told.{told}
+use Rattle.rules_listing.specs.Listing.{listRow}
+use Rattle.list_lines.specs.Leaves as lines
+use Rattle.list_lines.specs.declared.Reached.{Reached}
+use Rattle.list_lines.specs.declared.Reached.the-variants as reach
+use Rattle.answer_numbers.specs.declared.Told.{Told}
+use Rattle.answer_numbers.specs.Told.{told}
 
 -- What is handed back tells of an answer that `decide` promises, with both lists as it leaves them.
 pub record Handed (bytes : List ℕ) (nums dens nums′ dens′ : List ℤ) (t : Told) : Type 0 where

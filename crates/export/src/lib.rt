@@ -1,6 +1,6 @@
 // The decider and the listing for programs in C or Rust: numbers and slices only.
-use in_numbers::in_numbers;
-use lines::Reached;
+use answer_numbers::in_numbers;
+use list_lines::Reached;
 ghost use mathlib.Core.Path.{_≡_};
 ghost use Rattle.export.specs.Handed.{Handed, Listed};
 
@@ -24,7 +24,7 @@ pub extern "C" fn hamzulaph_decide(
     t.word
 }
 
-// Lists row t at a place of the buffer, as `writer::row_into` does. Answers the new place reached, or the old one and the refusal's number.
+// Lists row t at a place of the buffer, as `list_plain::row_into` does. Answers the new place reached, or the old one and the refusal's number.
 #[no_mangle]
 pub extern "C" fn hamzulaph_list_row(
     buf: &mut [u8],
@@ -36,7 +36,7 @@ pub extern "C" fn hamzulaph_list_row(
 ) -> usize
     ensures { λ r. ⌜ Listed (now (nums .entry)) (now (dens .entry)) t at (now (buf .entry)) (now (buf .exit)) r (now (number .exit)) ⌝ }
 {
-    let reached = writer::row_into(buf, at, nums, dens, t);
+    let reached = list_plain::row_into(buf, at, nums, dens, t);
     match reached {
         Reached::At(place) => {
             *number = 0;

@@ -1,7 +1,7 @@
 -- `agree::list` meets its contract: what both calls promise together. Assumes nothing.
 use native.Mathlib.Omega.{arith}
 use borrow.Author.Needs.{needs}
-use Rattle.outcome.specs.Outcome.{PLACES}
+use Rattle.rules_run.specs.Row.{PLACES}
 use Rattle.agree.proofs.Printed.{calls-print}
 use Rattle.agree.proofs.list.Statement.{statement}
 use Rattle.agree.proofs.list.Tie as tie
@@ -28,7 +28,6 @@ same-length : tie.Need-same-length
 same-length c = search needs
 
 returns : tie.Need-returns
-unfolding PLACES
 returns c =
     let listed = c .before .before in
     let decided = listed .before .before .before .before .before .before in

@@ -1,6 +1,6 @@
 -- `decide::decide` meets its contract. Assumes nothing.
 use mathlib.Core.Path.{sym, _∙_}
-use Rattle.outcome.specs.Outcome.{PLACES}
+use Rattle.rules_run.specs.Row.{PLACES}
 use Rattle.answer.specs.Refusals.{SPACE}
 use Rattle.decide.proofs.Whole.{decided, space-nums, space-dens, outcome-long, unread-left}
 use borrow.Author.Needs.{needs}
@@ -24,12 +24,12 @@ abbrev read-problem-of-known-told2 : tie.After-known-told2 → tie.After-read-pr
 read-problem-of-known-told2 x = search
 
 returns : tie.Need-returns
-unfolding PLACES SPACE
+unfolding SPACE
 returns c =
     decided _ _ _ _ (space-nums _ _ _ (c .if1 .taken))
 
 returns-2 : tie.Need-returns-2
-unfolding PLACES SPACE
+unfolding SPACE
 returns-2 c =
     decided _ _ _ _ (space-dens _ _ _ (search needs) (c .if2 .taken))
 
@@ -53,12 +53,12 @@ same-length-2 : tie.Need-same-length-2
 same-length-2 c = search needs
 
 returns-3 : tie.Need-returns-3
-unfolding PLACES SPACE
+unfolding SPACE
 returns-3 c =
     decided _ _ _ _ (outcome-long _ _ _ (search needs) (search needs) ∙ decide-sound-of-dens c .decide-sound .ensures)
 
 returns-4 : tie.Need-returns-4
-unfolding PLACES SPACE
+unfolding SPACE
 returns-4 c =
     decided _ _ _ _ (unread-left _ _ _ _ _ (search needs) (search needs) (sym (read-problem-of-known-told2 c .read-problem .ensures) ∙ number-of-known-told2 c .number .given .1))
 

@@ -1,5 +1,5 @@
 -- `decide::decide_sound` meets its contract. Assumes nothing.
-use Rattle.steps.proofs.Going.{going-holds}
+use Rattle.run_progress.proofs.Going.{going-holds}
 use Rattle.decide.proofs.Whole.{read-facts, sound-rows, sound-cleared}
 use borrow.Author.Needs.{needs}
 use Rattle.decide.proofs.decide_sound.Statement.{statement}

@@ -1,6 +1,6 @@
 -- `decide::run_all` meets its contract. Assumes nothing.
-use Rattle.table.proofs.Columns.{kept-then}
-use Rattle.steps.proofs.Going.{while-going, going-holds}
+use Rattle.run_table.proofs.Columns.{kept-then}
+use Rattle.run_progress.proofs.Going.{while-going, going-holds}
 use Rattle.decide.proofs.Whole.{run-goes-on, run-ends, going-most, ended-holds}
 use borrow.Author.Needs.{needs}
 use Rattle.decide.proofs.run_all.Statement.{statement}

@@ -1,0 +1,44 @@
+-- `fraction_reduce::reduce::whole` meets its contract: n and 1 have no common divisor but 1.
+-- Assumes nothing.
+use mathlib.Core.Path.{_≡_, ap, _∙_}
+use native.Mathlib.Omega.{arith}
+use lib.IntN.{natAbs}
+use borrow.Author.Needs.{needs}
+use mir.Facts.{toZ-ofZ}
+use Rattle.whole.specs.Signed.{signed}
+use Rattle.whole.proofs.Divisors.{gcd-one}
+use Rattle.fraction.specs.Exact.{frac}
+use Rattle.fraction.specs.Limits.{limit}
+use Rattle.fraction_reduce.proofs.Linked.{answers-wide}
+use Rattle.fraction_reduce.proofs.Lowest.{lowest-num, signed-self}
+use Rattle.fraction_reduce.proofs.Shortcuts.{answers-lowest}
+use Rattle.fraction_reduce.proofs.reduce.whole.Statement.{statement}
+use Rattle.fraction_reduce.proofs.reduce.whole.Tie as tie
+
+size-wide-requires : tie.Need-size-wide-requires
+size-wide-requires c κs = search needs
+
+-- the size of n, as it was taken
+size-is : (c : tie.After-size-wide) → c .size-wide .result ≡ natAbs (c .before .args .n)
+size-is c = c .size-wide .ensures ∙ ap natAbs (toZ-ofZ (c .before .fits .n))
+
+returns : tie.Need-returns
+unfolding limit
+returns c =
+    let n = c .before .before .args .n in
+    answers-wide (frac n 1) (omega (arith, size-is (c .before), ap natAbs (lowest-num n 1 (omega arith) (gcd-one (natAbs n)))))
+
+made-requires : tie.Need-made-requires
+made-requires c κs = search needs
+
+returns-2 : tie.Need-returns-2
+unfolding limit
+returns-2 c =
+    let start = c .before .before .before in
+    let n = start .args .n in
+    let size = size-is (c .before .before) in
+    let num = (rw (toZ-ofZ (start .fits .n)) at (c .made .ensures .0)) ∙ ap (signed n) size ∙ signed-self n in
+    answers-lowest n 1 (omega arith) (gcd-one (natAbs n)) num (c .made .ensures .1) (omega (arith, size)) (omega arith)
+
+pub whole-spec : {M : Type 1} → statement M
+whole-spec = tie.close (tie.spec size-wide-requires returns made-requires returns-2)

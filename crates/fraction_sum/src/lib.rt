@@ -1,0 +1,56 @@
+// The sum and the difference of two fractions.
+use fraction_reduce::Made;
+use fraction_reduce::bottoms;
+use fraction_reduce::reduce::reduced;
+use fraction::Fraction;
+use whole_signed::times;
+use fraction_inverse::negated;
+ghost use mathlib.Core.Path.{_≡_};
+ghost use Prim.Native.Nat.{_<_, _^_};
+ghost use lib.IntN.{natAbs, _+ℤ_, _*ℤ_};
+ghost use Rattle.fraction.specs.Exact.{value};
+ghost use Rattle.fraction.specs.Limits.{plus, minus};
+ghost use Rattle.fraction_reduce.specs.Values.{Good, Answers};
+
+// The numerator of a sum, over the product of the denominators.
+fn cross(a: Fraction, b: Fraction) -> i64
+    requires { ⌜ Good a ⌝ }
+    requires { ⌜ Good b ⌝ }
+    ensures { λ r. ⌜ r ≡ a .num *ℤ b .den +ℤ b .num *ℤ a .den ⌝ }
+    ensures { λ r. ⌜ natAbs r < 2 ^ 63 ⌝ }
+{
+    whole_signed::plus(times(a.num, b.den), times(b.num, a.den))
+}
+
+// Any two summands.
+fn sum_plain(a: Fraction, b: Fraction) -> Made
+    requires { ⌜ Good a ⌝ }
+    requires { ⌜ Good b ⌝ }
+    ensures { λ r. ⌜ Answers r (plus (value a) (value b)) ⌝ }
+{
+    reduced(cross(a, b), bottoms(a, b))
+}
+
+// a plus b. To add 0 needs no gcd.
+pub fn sum(a: Fraction, b: Fraction) -> Made
+    requires { ⌜ Good a ⌝ }
+    requires { ⌜ Good b ⌝ }
+    ensures { λ r. ⌜ Answers r (plus (value a) (value b)) ⌝ }
+{
+    if a.num == 0 {
+        return Made::Fits(b);
+    }
+    if b.num == 0 {
+        return Made::Fits(a);
+    }
+    sum_plain(a, b)
+}
+
+// a minus b.
+pub fn difference(a: Fraction, b: Fraction) -> Made
+    requires { ⌜ Good a ⌝ }
+    requires { ⌜ Good b ⌝ }
+    ensures { λ r. ⌜ Answers r (minus (value a) (value b)) ⌝ }
+{
+    sum(a, negated(b))
+}

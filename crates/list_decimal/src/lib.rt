@@ -1,0 +1,18 @@
+// Numbers in decimal, written into a lent buffer.
+use list_text::put_byte;
+ghost use Prim.Native.Nat.{_+_, _≤_};
+ghost use lib.ListN.{length};
+ghost use Rattle.rules_listing.specs.Text.{decimal};
+ghost use Rattle.list_text.specs.Wrote.{Wrote};
+
+// The digits before the last are those of a tenth, rounded down.
+pub fn put_decimal(buf: &mut [u8], at: usize, x: u64) -> usize
+    requires { ⌜ at + length (decimal x) ≤ length (now buf) ⌝ }
+    ensures { λ r. ⌜ Wrote (decimal x) at (now (buf .entry)) (now (buf .exit)) r ⌝ }
+{
+    if x < 10 {
+        return put_byte(buf, at, (48 + x) as u8);
+    }
+    let next = put_decimal(buf, at, x / 10);
+    put_byte(buf, next, (48 + x % 10) as u8)
+}

@@ -1,0 +1,36 @@
+// The first line of a listing, written at a place of a lent buffer.
+use answer::Answer;
+use list_decimal::put_decimal;
+use list_text::put_byte;
+use list_text::put_text;
+ghost use mathlib.Core.List.{_++_};
+ghost use Prim.Native.Nat.{_+_, _≤_};
+ghost use lib.ListN.{length};
+ghost use Rattle.rules_listing.specs.Text.{ascii, decimal};
+ghost use Rattle.rules_listing.specs.Line.{firstLine};
+ghost use Rattle.list_text.specs.Wrote.{Wrote};
+
+// "word, place, count, or `refused`, number, place"
+fn put_said(buf: &mut [u8], at: usize, word: &[u8], first: usize, second: usize) -> usize
+    requires { ⌜ at + length (now word) + 42 ≤ length (now buf) ⌝ }
+    ensures { λ r. ⌜ Wrote (now (word .entry) ++ decimal first ++ ascii " " ++ decimal second ++ ascii "\n") at (now (buf .entry)) (now (buf .exit)) r ⌝ }
+{
+    let said = put_text(buf, at, word);
+    let number = put_decimal(buf, said, first as u64);
+    let blank = put_byte(buf, number, b' ');
+    let end = put_decimal(buf, blank, second as u64);
+    put_byte(buf, end, b'\n')
+}
+
+// An answer by its word and its two numbers.
+pub fn put_first(buf: &mut [u8], at: usize, answer: Answer) -> usize
+    requires { ⌜ at + 2048 ≤ length (now buf) ⌝ }
+    ensures { λ r. ⌜ Wrote (firstLine answer) at (now (buf .entry)) (now (buf .exit)) r ⌝ }
+{
+    match answer {
+        Answer::Entailed { solved } => put_said(buf, at, b"entailed ", 0, solved),
+        Answer::NotEntailed { solved } => put_said(buf, at, b"not-entailed ", 0, solved),
+        Answer::Contradictory { place } => put_said(buf, at, b"contradictory ", place, 0),
+        Answer::Refused { number, place } => put_said(buf, at, b"refused ", number as usize, place),
+    }
+}

@@ -1,0 +1,12 @@
+-- What writing a text into a buffer leaves.
+-- Main definition: `Wrote`. Assumes nothing.
+use mathlib.Core.Path.{_≡_}
+use mathlib.Core.List.{List}
+use Prim.Native.Nat.{ℕ, _+_}
+use lib.ListN.{length}
+use Rattle.rules_listing.specs.Listing.{putAt}
+
+-- The text stands at the place, every other byte is as it was, and the next place is the one behind the text.
+pub record Wrote (text : List ℕ) (place : ℕ) (before after : List ℕ) (next : ℕ) : Type 0 where
+  pub placed : after ≡ putAt place text before
+  pub reached : next ≡ place + length text

@@ -1,0 +1,35 @@
+use borrow.Author.Needs.{needs}
+use borrow.Author.Tests.{lt-ltb, le-ltb}
+use Rattle.record_cursor.proofs.There.{second-side}
+use Rattle.record_faults.specs.Walks.{sidesBelow}
+use Rattle.record_faults.proofs.both_below.Statement.{statement}
+use Rattle.record_faults.proofs.both_below.Tie as tie
+use Rattle.record_faults.proofs.both_below.Reads as reads
+use Rattle.record_faults.proofs.both_below.Lts as lts
+use Rattle.record_cursor.proofs.Cursor.read.Reads as read-reads
+
+read-requires : tie.Need-read-requires
+read-requires c κs = search needs
+
+cast-if1 : tie.Need-cast-if1
+cast-if1 c = search needs
+
+read-requires-2 : tie.Need-read-requires-2
+read-requires-2 c κs = search needs
+
+cast-result : tie.Need-cast-result
+cast-result c = search needs
+
+returns : tie.Need-returns
+unfolding sidesBelow
+returns c =
+    let first = c .before .before .before .before in
+    rw (← first .read .ensures .value, lt-ltb _ _ (c .before .before .if1 .taken), second-side (first .read .ensures) (c .before .read2 .ensures))
+
+returns-2 : tie.Need-returns-2
+unfolding sidesBelow
+returns-2 c = rw (← c .before .before .read .ensures .value, le-ltb _ _ (c .if1 .left))
+
+pub both-below-spec : {M : Type 1} → statement M
+both-below-spec =
+    tie.close (tie.spec read-requires cast-if1 read-requires-2 cast-result returns returns-2)

@@ -1,0 +1,42 @@
+-- The run: build, close, then each assumption in file order.
+-- Main definitions: `byNumber`, `run`, `judged`. Assumes nothing.
+use mathlib.Core.Bool.{cond}
+use mathlib.Core.List.{List, [], _∷_}
+use Prim.Native.Nat.{ℕ, suc}
+use Rattle.answer.specs.declared.Answer.{Answer}
+use Rattle.answer.specs.declared.Answer.the-variants.{Entailed, NotEntailed, Contradictory, Refused}
+use Rattle.fraction.specs.Made.{Made, made, _>>=_, because}
+use Rattle.rules_problem.specs.declared.Term.{Term}
+use Rattle.rules_problem.specs.Problem.{Pair, Problem}
+use Rattle.rules_run.specs.Row.{sameRow}
+use Rattle.rules_run.specs.Build.{built}
+use Rattle.rules_run.specs.Merge.{State, Stop, contradiction, outside, merge}
+use Rattle.rules_run.specs.Close.{close}
+
+-- Which unknown a merge solves is the one of highest rank: "the highest-numbered term" ranks by its number.
+unfoldable pub byNumber : ℕ → ℕ
+byNumber c = c
+
+-- what a run that stops at an assumption answers: 01, What comes back, the places of contradictory and 7
+unfoldable pub ends : (place : ℕ) → Stop → Answer
+ends place contradiction = Contradictory place
+ends place (outside number) = Refused number place
+
+-- 01, The run, 3: "For each assumption in file order: merge its sides, then close."
+unfoldable pub assume : (rank : ℕ → ℕ) → List Term → (place : ℕ) → List Pair → State → Made Answer State
+assume rank terms place [] state = made state
+assume rank terms place (pair ∷ pairs) state =
+    because (ends place) (merge rank (pair .left) (pair .right) state >>= close rank terms) >>= assume rank terms (suc place) pairs
+
+-- "1. Build rows in rising order. (..) 2. Close." A stop there has place 0.
+unfoldable pub begin : (rank : ℕ → ℕ) → List Term → Made Answer State
+begin rank terms =
+    because (ends 0)
+    (because outside (built terms []) >>= λ table. close rank terms (record { table = table; solved = 0 }))
+
+unfoldable pub run : (rank : ℕ → ℕ) → Problem → Made Answer State
+run rank problem = begin rank (problem .terms) >>= assume rank (problem .terms) 1 (problem .pairs)
+
+-- 01, What comes back: "entailed, not-entailed | goal rows equal, unequal", with the count of solved unknowns
+unfoldable pub judged : Pair → State → Answer
+judged goal state = cond (sameRow (state .table) (goal .left) (goal .right)) (Entailed (state .solved)) (NotEntailed (state .solved))

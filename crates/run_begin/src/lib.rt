@@ -1,0 +1,28 @@
+// Steps 1 and 2 of the run: the rows are built, and closed.
+use answer::Answer;
+use run_progress::Ran;
+use run_table::Step;
+ghost use Rattle.run_table.specs.Work.{lent, entered, leaving};
+ghost use Rattle.run_begin.specs.Contract.{Beginnable, Begins};
+
+// 01, The run, 1 and 2: the rows are built and closed; a stop there has place 0. The sets serve what the run goes on with.
+pub fn begin(
+    bytes: &[u8],
+    n: usize,
+    nums: &mut [i32],
+    dens: &mut [i32],
+    heads: &mut [u16],
+    inputs: &mut [u8],
+    sets: &mut [u64],
+) -> Ran
+    requires { ⌜ Beginnable (now bytes) n (now heads) (now inputs) (lent nums dens sets) ⌝ }
+    ensures { λ r. ⌜ Begins (now (bytes .entry)) n r (now (heads .entry)) (now (inputs .entry)) (now (heads .exit)) (now (inputs .exit)) (entered nums dens sets) (leaving nums dens sets) ⌝ }
+{
+    match run_build::build(bytes, n, nums, dens, heads, inputs, sets) {
+        Step::Done => run_progress::placed(0, run_close::close(nums, dens, n, heads, inputs, sets, 0), 65),
+        Step::Refused(number) => Ran::Ended(Answer::Refused {
+            number: number,
+            place: 0,
+        }),
+    }
+}

@@ -1,0 +1,51 @@
+-- What a term must be for its row to be built.
+-- Main definitions: `Written`, `Holding`, `Below`, `Buildable`, `Combined`. Assumes nothing.
+use Prim.Native.Nat.{ℕ, _≤_, _<_}
+use lib.IntN.{natAbs}
+use Rattle.fraction.specs.declared.Fraction.{Fraction}
+use Rattle.rules_problem.specs.declared.Kind.{Kind}
+use Rattle.rules_problem.specs.declared.Kind.the-variants.{Variable, Constant, Gain, Sum, Difference, Lookup1, Lookup2, Lookup3}
+
+-- mantissa / 2^shift as a record has it, not in lowest terms: 16 bits with a sign over a power up to 2^15
+pub record Written (f : Fraction) : Type 0 where
+  pub least : 1 ≤ natAbs (f .den)
+  pub below : natAbs (f .den) ≤ 32768
+  pub above : natAbs (f .num) ≤ 32768
+
+-- the fraction of a constant or a gain is as P says
+unfoldable pub Holding : (P : Fraction → Type 0) → Kind → Type 0
+Holding P (Variable symbol) = Unit {0}
+Holding P (Constant value) = P value
+Holding P (Gain factor input) = P factor
+Holding P (Sum left right) = Unit {0}
+Holding P (Difference left right) = Unit {0}
+Holding P (Lookup1 symbol input) = Unit {0}
+Holding P (Lookup2 symbol first second) = Unit {0}
+Holding P (Lookup3 symbol first second third) = Unit {0}
+
+-- 01, The problem record: each input is below the term's own number
+unfoldable pub Below : (own : ℕ) → Kind → Type 0
+Below own (Variable symbol) = Unit {0}
+Below own (Constant value) = Unit {0}
+Below own (Gain factor input) = input < own
+Below own (Sum left right) = (left < own) × (right < own)
+Below own (Difference left right) = (left < own) × (right < own)
+Below own (Lookup1 symbol input) = input < own
+Below own (Lookup2 symbol first second) = (first < own) × (second < own)
+Below own (Lookup3 symbol first second third) = (first < own) × (second < own) × (third < own)
+
+-- a term t whose inputs lie before it, with its fraction as P says
+pub record Buildable (P : Fraction → Type 0) (own : ℕ) (kind : Kind) : Type 0 where
+  pub inputs : Below own kind
+  pub fraction : Holding P kind
+
+-- a row that is made of earlier ones: a gain's, a sum's or a difference's
+unfoldable pub Combined : Kind → Type 0
+Combined (Variable symbol) = ⊥
+Combined (Constant value) = ⊥
+Combined (Gain factor input) = Unit {0}
+Combined (Sum left right) = Unit {0}
+Combined (Difference left right) = Unit {0}
+Combined (Lookup1 symbol input) = ⊥
+Combined (Lookup2 symbol first second) = ⊥
+Combined (Lookup3 symbol first second third) = ⊥

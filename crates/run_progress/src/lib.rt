@@ -1,0 +1,26 @@
+// How far the run has come: it goes on, or has ended with an answer.
+use answer::Answer;
+use run_close::Closed;
+ghost use Rattle.run_close.specs.Outcome.{Counted};
+ghost use Rattle.run_progress.specs.Ran.{Places};
+
+// A run goes on with its count of solved unknowns, or has ended with an answer.
+pub enum Ran {
+    Going(usize),
+    Ended(Answer),
+}
+
+// What closing at an assumption comes to: a stop gets its place.
+pub fn placed(place: usize, closing: Closed, most: usize) -> Ran
+    requires { ⌜ Counted most closing ⌝ }
+    ensures { λ r. ⌜ Places place closing most r ⌝ }
+{
+    match closing {
+        Closed::Going(solved) => Ran::Going(solved),
+        Closed::Contradiction => Ran::Ended(Answer::Contradictory { place: place }),
+        Closed::Refused(number) => Ran::Ended(Answer::Refused {
+            number: number,
+            place: place,
+        }),
+    }
+}

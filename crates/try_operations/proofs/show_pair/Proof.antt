@@ -1,0 +1,33 @@
+-- `try_operations::show_pair` meets what `show_operations` asks. Assumes nothing.
+use borrow.Author.Needs.{needs}
+use Rattle.try_operations.proofs.show_pair.Statement.{statement}
+use Rattle.try_operations.proofs.show_pair.Tie as tie
+
+is-good-requires : tie.Need-is-good-requires
+is-good-requires c κs = search needs
+
+is-good-requires-2 : tie.Need-is-good-requires-2
+is-good-requires-2 c κs = search needs
+
+show-operations-requires : tie.Need-show-operations-requires
+show-operations-requires c κs = (c .before .before .before .is-good .ensures (c .before .before .if1 .taken), c .before .is-good2 .ensures (c .if2 .taken))
+
+returns : tie.Need-returns
+returns c = search needs
+
+returns-2 : tie.Need-returns-2
+returns-2 c = search needs
+
+returns-3 : tie.Need-returns-3
+returns-3 c = search needs
+
+pub show-pair-spec : {M : Type 1} → statement M
+show-pair-spec =
+    tie.close
+    (tie.spec
+    is-good-requires
+    is-good-requires-2
+    show-operations-requires
+    returns
+    returns-2
+    returns-3)

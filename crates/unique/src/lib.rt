@@ -1,0 +1,1 @@
+// No code: the crate holds what it means that a contract leaves one answer.

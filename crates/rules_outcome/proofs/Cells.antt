@@ -6,8 +6,8 @@ use Prim.Native.Nat.{ℕ, _+_, _*_, _/_, _%_, _≤_, _<_}
 use native.Mathlib.Omega.{arith}
 use lib.ListN.{length, getD}
 use lib.IntN.{ℤ, pos}
-use Rattle.rules_run.specs.Row.{TERMS, COLUMNS}
-use Rattle.rules_outcome.specs.Outcome.{PLACES, laidOut}
+use Rattle.rules_run.specs.Row.{TERMS, COLUMNS, PLACES}
+use Rattle.rules_outcome.specs.Outcome.{laidOut}
 use Rattle.rules_outcome.proofs.Laid.{overwritten-below}
 
 -- Row t, column c stands at a place of its own.

@@ -9,7 +9,8 @@ use lib.IntN.{ℤ}
 use Rattle.fraction.specs.Made.{made}
 use Rattle.rules_problem.specs.Problem.{Problem, decoded}
 use Rattle.rules_run.specs.Run.{run}
-use Rattle.rules_outcome.specs.Outcome.{Decision, unread, cutShort, finished, afterRun, afterReading, decision, answered, PLACES, after, outcome}
+use Rattle.rules_run.specs.Row.{PLACES}
+use Rattle.rules_outcome.specs.Outcome.{Decision, unread, cutShort, finished, afterRun, afterReading, decision, answered, after, outcome}
 
 -- The answer is the decision's.
 pub after-answer : (d : Decision) (numerators denominators : List ℤ) → after d numerators denominators .answer ≡ answered d

@@ -9,8 +9,8 @@ use native.Mathlib.Omega.{arith}
 use lib.ListN.{length, getD}
 use lib.Seq.{ext-getD}
 use lib.IntN.{ℤ, pos}
-use Rattle.rules_run.specs.Row.{COLUMNS}
-use Rattle.rules_outcome.specs.Outcome.{PLACES, overwritten, laidOut}
+use Rattle.rules_run.specs.Row.{COLUMNS, PLACES}
+use Rattle.rules_outcome.specs.Outcome.{overwritten, laidOut}
 
 pub overwritten-length : (count : ℕ) (g : ℕ → ℤ) (list : List ℤ) → length (overwritten count g list) ≡ length list
 unfolding overwritten

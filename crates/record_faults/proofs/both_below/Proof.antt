@@ -4,9 +4,6 @@ use Rattle.record_cursor.proofs.There.{second-side}
 use Rattle.record_faults.specs.Walks.{sidesBelow}
 use Rattle.record_faults.proofs.both_below.Statement.{statement}
 use Rattle.record_faults.proofs.both_below.Tie as tie
-use Rattle.record_faults.proofs.both_below.Reads as reads
-use Rattle.record_faults.proofs.both_below.Lts as lts
-use Rattle.record_cursor.proofs.Cursor.read.Reads as read-reads
 
 read-requires : tie.Need-read-requires
 read-requires c κs = search needs

@@ -7,9 +7,6 @@ use Rattle.record_faults.specs.Walks.{Passed, soundTerm, soundPair}
 use Rattle.record_faults.proofs.Walking.{passed-none, passed-more, first-found, first-none}
 use Rattle.record_faults.proofs.first_beyond.Statement.{statement}
 use Rattle.record_faults.proofs.first_beyond.Tie as tie
-use Rattle.record_faults.proofs.first_beyond.Reads as reads
-use Rattle.record_faults.proofs.first_beyond.Lts as lts
-use Rattle.record_faults.proofs.both_below.Reads as both-below-reads
 
 abbrev Inv-loop : tie.InvT-loop
 Inv-loop bytes n m k₀ k = Passed 1 (m + 1) (soundPair bytes n) k

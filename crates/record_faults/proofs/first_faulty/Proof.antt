@@ -7,9 +7,6 @@ use Rattle.record_faults.specs.Walks.{Passed, soundTerm, soundPair}
 use Rattle.record_faults.proofs.Walking.{passed-none, passed-more, first-found, first-none}
 use Rattle.record_faults.proofs.first_faulty.Statement.{statement}
 use Rattle.record_faults.proofs.first_faulty.Tie as tie
-use Rattle.record_faults.proofs.first_faulty.Reads as reads
-use Rattle.record_faults.proofs.first_faulty.Lts as lts
-use Rattle.record_faults.proofs.is_sound.Reads as is-sound-reads
 
 abbrev Inv-loop : tie.InvT-loop
 Inv-loop bytes n t₀ t = Passed 0 n (soundTerm bytes) t

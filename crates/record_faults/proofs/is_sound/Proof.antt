@@ -2,9 +2,6 @@ use borrow.Author.Needs.{needs}
 use Rattle.record_faults.specs.Walks.{isSound, soundTerm}
 use Rattle.record_faults.proofs.is_sound.Statement.{statement}
 use Rattle.record_faults.proofs.is_sound.Tie as tie
-use Rattle.record_faults.proofs.is_sound.Reads as reads
-use Rattle.record_faults.proofs.is_sound.Lts as lts
-use Rattle.record_term.proofs.read_term.Reads as read-term-reads
 
 read-term-requires : tie.Need-read-term-requires
 read-term-requires c κs = search needs

@@ -6,9 +6,6 @@ use Rattle.record_cursor.proofs.There.{second-side}
 use Rattle.record_items.proofs.Holding.{pair-within, pair-held}
 use Rattle.record_items.proofs.pair_at.Statement.{statement}
 use Rattle.record_items.proofs.pair_at.Tie as tie
-use Rattle.record_items.proofs.pair_at.Reads as reads
-use Rattle.record_items.proofs.pair_at.Lts as lts
-use Rattle.record_cursor.proofs.Cursor.read.Reads as read-reads
 
 mul-t7 : tie.Need-mul-t7
 mul-t7 c = omega (arith, pair-within (now (c .before .args .bytes)) (c .before .args .n) (c .before .args .k) (c .before .pre))

@@ -5,36 +5,24 @@ use denote.Ref.{now}
 use Rattle.record_reader.proofs.Decoding.{read-term, read-goal, read-pair, read-sound}
 use Rattle.record_reader.proofs.judge.Statement.{statement}
 use Rattle.record_reader.proofs.judge.Tie as tie
-use Rattle.record_reader.proofs.judge.Reads as reads
-use Rattle.record_reader.proofs.judge.Lts as lts
-use Rattle.record_reader.proofs.refused.Reads as refused-reads
-use Rattle.record_faults.proofs.both_below.Reads as both-below-reads
-use Rattle.record_faults.proofs.first_beyond.Reads as first-beyond-reads
-use Rattle.record_faults.proofs.first_faulty.Reads as first-faulty-reads
 
--- src/lib.rt:70:9
 first-faulty-requires : tie.Need-first-faulty-requires
 first-faulty-requires c κs = search needs
 
--- src/lib.rt:72:9
 refused-requires : tie.Need-refused-requires
 refused-requires c κs = search needs
 
--- src/lib.rt:72:9
 returns : tie.Need-returns
 returns c =
     let s = c .before .before .before .before in
     c .refused .ensures ∙ sym (read-term (now (s .args .bytes)) (s .args .header) (s .pre) _ (c .before .before .first-faulty .ensures) (c .before .if1 .taken))
 
--- src/lib.rt:74:9
 both-below-requires : tie.Need-both-below-requires
 both-below-requires c κs = search needs
 
--- src/lib.rt:75:9
 refused-requires-2 : tie.Need-refused-requires-2
 refused-requires-2 c κs = search needs
 
--- src/lib.rt:75:9
 returns-2 : tie.Need-returns-2
 returns-2 c =
     let goal = c .before .before in
@@ -43,15 +31,12 @@ returns-2 c =
     c .refused2 .ensures
     ∙ sym (read-goal (now (s .args .bytes)) (s .args .header) (s .pre) _ (terms .first-faulty .ensures) (goal .before .if1 .left) (sym (goal .both-below .ensures) ∙ not-true _ (c .before .if2 .taken)))
 
--- src/lib.rt:77:9
 first-beyond-requires : tie.Need-first-beyond-requires
 first-beyond-requires c κs = search needs
 
--- src/lib.rt:79:9
 refused-requires-3 : tie.Need-refused-requires-3
 refused-requires-3 c κs = search needs
 
--- src/lib.rt:79:9
 returns-3 : tie.Need-returns-3
 returns-3 c =
     let pairs = c .before .before in
@@ -61,7 +46,6 @@ returns-3 c =
     c .refused3 .ensures
     ∙ sym (read-pair (now (s .args .bytes)) (s .args .header) (s .pre) _ (terms .first-faulty .ensures) (goal .before .if1 .left) (sym (goal .both-below .ensures) ∙ not-false _ (pairs .before .if2 .left)) _ (pairs .first-beyond .ensures) (c .before .if3 .taken))
 
--- src/lib.rt:64:1
 returns-4 : tie.Need-returns-4
 returns-4 c =
     let pairs = c .before in

@@ -5,10 +5,7 @@ use Rattle.rules_problem.specs.Record.{every}
 use Rattle.record_term.specs.Terms.{below}
 use Rattle.record_term.proofs.below1.Statement.{statement}
 use Rattle.record_term.proofs.below1.Tie as tie
-use Rattle.record_term.proofs.below1.Reads as reads
-use Rattle.record_term.proofs.below1.Lts as lts
 
--- src/term.rt:67:1
 returns : tie.Need-returns
 unfolding below every
 returns c = sym (and-true _)

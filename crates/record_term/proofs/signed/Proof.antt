@@ -7,31 +7,24 @@ use Rattle.rules_problem.specs.Bits.{signed16}
 use Rattle.record_term.proofs.Mantissa.{mantissa-fits}
 use Rattle.record_term.proofs.signed.Statement.{statement}
 use Rattle.record_term.proofs.signed.Tie as tie
-use Rattle.record_term.proofs.signed.Reads as reads
-use Rattle.record_term.proofs.signed.Lts as lts
 
--- src/term.rt:28:9
 cast-result : tie.Need-cast-result
 cast-result c = search needs
 
--- src/term.rt:30:9
 cast-result-2 : tie.Need-cast-result-2
 cast-result-2 c = search needs
 
--- src/term.rt:30:9
 sub-result : tie.Need-sub-result
 sub-result c =
     let m = c .before .args .mantissa in
     rw (toZ-pos w32 {n = m} (omega arith)) (mantissa-fits m (omega arith))
 
--- src/term.rt:24:1
 returns : tie.Need-returns
 unfolding signed16
 returns c =
     let m = c .before .args .mantissa in
     rw (toZ-pos w32 {n = m} (omega arith), lt-ltb m 32768 (search needs))
 
--- src/term.rt:24:1
 returns-2 : tie.Need-returns-2
 unfolding signed16
 returns-2 c =

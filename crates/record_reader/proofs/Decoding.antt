@@ -22,7 +22,7 @@ use Rattle.record_reader.specs.declared.Header.{Header}
 use Rattle.record_reader.specs.declared.Read.the-variants.{Sound, Refused}
 use Rattle.record_term.specs.declared.TermRead.{TermRead}
 use Rattle.record_term.specs.declared.TermRead.the-variants as term
-use Rattle.record_term.specs.Terms.{judged, termRead}
+use Rattle.record_term.specs.Terms.{soundIf, termRead}
 use Rattle.record_faults.specs.Walks.{isSound, soundTerm, sidesBelow, soundPair, First}
 use Rattle.record_reader.specs.Reads.{headerOf, readAs, readOf, HeaderRead, Framed}
 
@@ -64,10 +64,10 @@ termAs t (term.Sound found) = made found
 termAs t term.Faulty = refuse TERM t
 
 pub term-as : (bytes : List ℕ) (t : ℕ) → termAt bytes t ≡ termAs t (termRead bytes t)
-unfolding termRead judged termAt termAs
+unfolding termRead soundIf termAt termAs
 term-as bytes t = go (kindOf t (fieldsAt bytes (32 + 64 * t)))
   where
-    go : (o : Option Kind) → _≡_ {A = Made Refusal Term} (elim o [ none ↦ refuse TERM t | some kind ↦ made (record { kind = kind }) ]) (termAs t (judged o))
+    go : (o : Option Kind) → _≡_ {A = Made Refusal Term} (elim o [ none ↦ refuse TERM t | some kind ↦ made (record { kind = kind }) ]) (termAs t (soundIf o))
     go none = refl
     go (some kind) = refl
 

@@ -1,3 +1,5 @@
+-- `record_term::power` meets its contract: 1 shifted is the power, which fits 32 bits.
+-- Assumes nothing.
 use borrow.Author.Needs.{needs}
 use Prim.Native.Nat.{ℕ, _^_, _<_}
 use native.Mathlib.Omega.{arith}

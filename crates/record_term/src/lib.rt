@@ -182,7 +182,7 @@ pub fn read_term(bytes: &[u8], own: usize) -> TermRead
     }
 }
 
-// The term with the number `own`, whose record lies within the bytes and is not soundIf again.
+// The term with the number `own`, whose record lies within the bytes and is not judged again.
 pub fn held_term(bytes: &[u8], own: usize) -> Term
     requires { ⌜ SoundRecord (now bytes) own ⌝ }
     ensures { λ r. ⌜ termRead (now (bytes .entry)) own ≡ Sound r ⌝ }

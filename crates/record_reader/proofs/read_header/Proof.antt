@@ -1,3 +1,5 @@
+-- `record_reader::read_header` meets its contract: four pieces in a chain are the header.
+-- Assumes nothing.
 use borrow.Author.Needs.{needs}
 use Rattle.record_reader.proofs.Chain.{header-read}
 use Rattle.record_reader.proofs.read_header.Statement.{statement}
@@ -28,11 +30,7 @@ cast-t10 : tie.Need-cast-t10
 cast-t10 c = search needs
 
 returns : tie.Need-returns
-returns c =
-    let r4 = c .before .before .before .before in
-    let r3 = r4 .before in
-    let r2 = r3 .before in
-    header-read (r2 .before .read .ensures) (r2 .read2 .ensures) (r3 .read3 .ensures) (r4 .read4 .ensures)
+returns c = search header-read
 
 pub read-header-spec : {M : Type 1} → statement M
 read-header-spec =

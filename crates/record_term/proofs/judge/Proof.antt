@@ -1,4 +1,4 @@
--- `record_term::judge` meets its contract: each kind is soundIf by its row in the table of kinds. Assumes nothing.
+-- `record_term::judge` meets its contract: each kind is judged by its row in the table of kinds. Assumes nothing.
 use mathlib.Core.Path.{_≡_, sym, ap}
 use mathlib.Core.Option.{none}
 use Rattle.rules_problem.specs.Record.{every, kindOf}

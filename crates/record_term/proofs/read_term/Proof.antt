@@ -1,4 +1,4 @@
--- `record_term::read_term` meets its contract: a record that is soundIf sound holds the term that its fields say.
+-- `record_term::read_term` meets its contract: a record that is judged sound holds the term that its fields say.
 -- Assumes nothing.
 use mathlib.Core.Path.{_≡_, sym, ap, _∙_}
 use Prim.Native.Nat.{_+_, _*_}

@@ -2,8 +2,8 @@
 ghost use mathlib.Core.Path.{_≡_};
 ghost use lib.ListN.{length, take, drop};
 ghost use Rattle.list_text.specs.Wrote.{Wrote};
-ghost use Rattle.try_hex.specs.Digits.{digitOf, pairOf, firstOf, bytesOf};
-ghost use Rattle.try_hex.specs.Lines.{Ends};
+ghost use Rattle.try_hex.specs.Digits.{digitOf, byteOf, firstOf, bytesOf};
+ghost use Rattle.try_hex.specs.Lines.{LineEnds};
 
 const NEWLINE: u8 = 10;
 
@@ -33,7 +33,7 @@ fn digit(b: u8) -> u8
 }
 
 fn pair(high: u8, low: u8) -> Said
-    ensures { λ r. ⌜ r ≡ pairOf high low ⌝ }
+    ensures { λ r. ⌜ r ≡ byteOf high low ⌝ }
 {
     let sixteens = digit(high);
     let ones = digit(low);
@@ -78,7 +78,7 @@ pub fn read(text: &[u8], bytes: &mut [u8]) -> usize
 
 // How many bytes the first line of a text has, with the newline that ends it.
 pub fn line_length(text: &[u8]) -> usize
-    ensures { λ r. ⌜ Ends (now (text .entry)) r ⌝ }
+    ensures { λ r. ⌜ LineEnds (now (text .entry)) r ⌝ }
 {
     let mut i: usize = 0;
     while i < text.len() {

@@ -1,5 +1,5 @@
 -- What the functions that make a fraction ask for, and what they ensure.
--- Main definitions: `Raw`, `Reducible`, `Sizes`, `Lowest`, `Signed`, `Bottoms`. Assume nothing.
+-- Main definitions: `Raw`, `Reducible`, `Limited`, `InLowest`, `WithSign`, `Bottoms`. Assume nothing.
 use mathlib.Core.Path.{_≡_}
 use Prim.Native.Nat.{ℕ, _*_, _/_, _^_, _<_, _≤_}
 use lib.IntN.{ℤ, pos, natAbs}
@@ -21,17 +21,17 @@ pub record Reducible (n : ℤ) (d : ℕ) : Type 0 where
   pub positive : 0 < d
 
 -- Two sizes within the limit.
-pub record Sizes (top bottom : ℕ) : Type 0 where
+pub record Limited (top bottom : ℕ) : Type 0 where
   pub above : top ≤ limit
   pub below : bottom ≤ limit
 
 -- Two sizes divided by their greatest common divisor.
-pub record Lowest (top bottom : ℕ) (r : Terms) : Type 0 where
+pub record InLowest (top bottom : ℕ) (r : Terms) : Type 0 where
   pub above : r .top ≡ top / gcd top bottom
   pub below : r .bottom ≡ bottom / gcd top bottom
 
 -- A fraction of two sizes, with the sign of another number.
-pub record Signed (like : ℤ) (top bottom : ℕ) (r : Fraction) : Type 0 where
+pub record WithSign (like : ℤ) (top bottom : ℕ) (r : Fraction) : Type 0 where
   pub above : r .num ≡ signed like top
   pub below : r .den ≡ pos bottom
 

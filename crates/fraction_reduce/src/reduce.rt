@@ -10,7 +10,7 @@ ghost use Prim.Native.Nat.{_<_, _^_};
 ghost use lib.IntN.{natAbs};
 ghost use Rattle.fraction.specs.Exact.{frac};
 ghost use Rattle.fraction.specs.Limits.{tested};
-ghost use Rattle.fraction_reduce.specs.Contract.{Reducible, Sizes, Lowest, Signed};
+ghost use Rattle.fraction_reduce.specs.Contract.{Reducible, Limited, InLowest, WithSign};
 ghost use Rattle.fraction_reduce.specs.Values.{Answers};
 
 // 01, The run: the largest numerator and denominator.
@@ -25,7 +25,7 @@ pub struct Terms {
 // Two sizes divided by their greatest common divisor.
 pub(crate) fn lowest(top: u64, bottom: u64) -> Terms
     requires { ⌜ 0 < bottom ⌝ }
-    ensures { λ r. ⌜ Lowest top bottom r ⌝ }
+    ensures { λ r. ⌜ InLowest top bottom r ⌝ }
 {
     let common = greatest(top, bottom);
     Terms {
@@ -36,8 +36,8 @@ pub(crate) fn lowest(top: u64, bottom: u64) -> Terms
 
 // The sign is put back last: all else goes by sizes.
 pub fn made(like: i64, top: u64, bottom: u64) -> Fraction
-    requires { ⌜ Sizes top bottom ⌝ }
-    ensures { λ r. ⌜ Signed like top bottom r ⌝ }
+    requires { ⌜ Limited top bottom ⌝ }
+    ensures { λ r. ⌜ WithSign like top bottom r ⌝ }
 {
     Fraction {
         num: put_back(like, top),
@@ -58,7 +58,7 @@ fn whole(n: i64) -> Made
 }
 
 // n / d in lowest terms, where both numbers are within the limits.
-fn lowered(n: i64, d: u64) -> Made
+fn reduced_plain(n: i64, d: u64) -> Made
     requires { ⌜ Reducible n d ⌝ }
     ensures { λ r. ⌜ Answers r (tested (frac n d)) ⌝ }
 {
@@ -79,5 +79,9 @@ pub fn reduced(n: i64, d: u64) -> Made
     requires { ⌜ Reducible n d ⌝ }
     ensures { λ r. ⌜ Answers r (tested (frac n d)) ⌝ }
 {
-    if d == 1 { whole(n) } else { lowered(n, d) }
+    if d == 1 {
+        whole(n)
+    } else {
+        reduced_plain(n, d)
+    }
 }

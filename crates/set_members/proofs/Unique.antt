@@ -1,6 +1,6 @@
 -- The public functions on sets: each contract leaves one answer.
 -- Main results: `sets-equal`, `sets-determined`, and by them a law NAME-unique for each public function NAME. Assume nothing.
-use mathlib.Core.Path.{_≡_, sym, _∙_}
+use mathlib.Core.Path.{_≡_, refl, sym, _∙_}
 use mathlib.Core.Bool.{Bool, true≢false}
 use Prim.Native.Nat.{ℕ, zero, suc, _+_, _/_, _%_, _^_, _<_, _≤_}
 use native.Mathlib.Nat.{pow-suc}
@@ -9,7 +9,7 @@ use lib.Dec.{eqb}
 use lib.Pow.{pow-mono}
 use Rattle.unique.specs.Twice.{Twice}
 use Rattle.set_members.specs.Sets.{holds}
-use Rattle.set_members.proofs.Digits.{holds-zero, holds-suc}
+use Rattle.set_members.proofs.Digits.{of-bits, holds-zero, holds-suc}
 use Rattle.set_members.proofs.common.Kinds as common-kinds
 use Rattle.set_members.proofs.common.Reads as common
 use Rattle.set_members.proofs.has.Kinds as has-kinds
@@ -23,13 +23,7 @@ use Rattle.set_members.proofs.without.Reads as without
 
 -- Two bits that pass the test alike are equal.
 bits-equal : (p q : ℕ) → p < 2 → q < 2 → eqb p 1 ≡ eqb q 1 → p ≡ q
-bits-equal zero zero hp hq same = omega arith
-bits-equal zero (suc zero) hp hq same = absurd (true≢false (sym same))
-bits-equal (suc zero) zero hp hq same = absurd (true≢false same)
-bits-equal (suc zero) (suc zero) hp hq same = omega arith
-bits-equal zero (suc (suc q)) hp hq same = absurd (omega arith)
-bits-equal (suc zero) (suc (suc q)) hp hq same = absurd (omega arith)
-bits-equal (suc (suc p)) q hp hq same = absurd (omega arith)
+bits-equal = of-bits (λ p q. eqb p 1 ≡ eqb q 1 → p ≡ q) (λ same. refl) (λ same. absurd (true≢false (sym same))) (λ same. absurd (true≢false same)) (λ same. refl)
 
 -- Two sets that hold the same numbers are one.
 pub sets-equal : (width a b : ℕ) → a < 2 ^ width → b < 2 ^ width → ((k : ℕ) → k < width → holds a k ≡ holds b k) → a ≡ b

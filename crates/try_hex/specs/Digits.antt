@@ -1,9 +1,11 @@
 -- Hexadecimal digits, `0` to `9` and `a` to `f`, and the bytes that pairs of them say.
--- Main definitions: `digitOf`, `byteOf`, `firstOf`, `bytesOf`. Assume nothing.
+-- Main definitions: `digitOf`, `byteOf`, `firstOf`, `bytesOf`, `BytesRead`. Assume nothing.
 use mathlib.Core.Bool.{cond}
 use mathlib.Core.List.{List, [], _∷_}
 use Prim.Native.Nat.{ℕ, _+_, _*_, _-_}
 use lib.Dec.{leb, ltb}
+use lib.ListN.{length, take}
+use Rattle.list_text.specs.Wrote.{Wrote}
 use Rattle.try_hex.specs.declared.Said.{Said}
 use Rattle.try_hex.specs.declared.Said.the-variants.{Value, Other}
 
@@ -31,3 +33,7 @@ unfoldable pub bytesOf : (text : List ℕ) → List ℕ
 bytesOf [] = []
 bytesOf (high ∷ []) = []
 bytesOf (high ∷ low ∷ rest) = followedBy (bytesOf rest) (byteOf high low)
+
+-- The bytes that a text says stand at the start of a buffer, as many as it has room for: r of them. Every other byte is as it was.
+abbrev pub BytesRead : (text before after : List ℕ) (r : ℕ) → Type 0
+BytesRead text before after r = Wrote (take (length before) (bytesOf text)) 0 before after r

@@ -1,8 +1,7 @@
 // Lines of hexadecimal digits: the bytes that a line says, and where it ends.
 ghost use mathlib.Core.Path.{_≡_};
-ghost use lib.ListN.{length, take, drop};
-ghost use Rattle.list_text.specs.Wrote.{Wrote};
-ghost use Rattle.try_hex.specs.Digits.{digitOf, byteOf, firstOf, bytesOf};
+ghost use lib.ListN.{drop};
+ghost use Rattle.try_hex.specs.Digits.{digitOf, byteOf, firstOf, BytesRead};
 ghost use Rattle.try_hex.specs.Lines.{LineEnds};
 
 const NEWLINE: u8 = 10;
@@ -61,7 +60,7 @@ fn byte(text: &[u8], at: usize) -> Said
 
 // Reads the bytes that a text says from its start, as far as there is room: how many they are.
 pub fn read(text: &[u8], bytes: &mut [u8]) -> usize
-    ensures { λ r. ⌜ Wrote (take (length (now (bytes .entry))) (bytesOf (now (text .entry)))) 0 (now (bytes .entry)) (now (bytes .exit)) r ⌝ }
+    ensures { λ r. ⌜ BytesRead (now (text .entry)) (now (bytes .entry)) (now (bytes .exit)) r ⌝ }
 {
     let mut k: usize = 0;
     let mut at: usize = 0;

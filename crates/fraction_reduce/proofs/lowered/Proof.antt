@@ -14,7 +14,7 @@ use Rattle.whole.specs.Signed.{signed}
 use Rattle.whole.proofs.Words.{fits-size, read-back}
 use Rattle.fraction.specs.Exact.{value}
 use Rattle.fraction.specs.Limits.{limit}
-use Rattle.fraction_reduce.specs.Contract.{Lowest}
+use Rattle.fraction_reduce.specs.Contract.{InLowest}
 use Rattle.fraction_reduce.proofs.Operations.{lowest-stands}
 use Rattle.fraction_reduce.proofs.lowered.Statement.{statement}
 use Rattle.fraction_reduce.proofs.lowered.Tie as tie
@@ -49,7 +49,7 @@ lowest-requires c κs =
     omega (arith, c .size2 .ensures ∙ ap natAbs (toZ-ofZ (den-fits start)), start .pre .least)
 
 -- what is left of the two numbers
-terms-are : (c : tie.After-lowest) → Lowest (natAbs (begun c .args .f .num)) (natAbs (begun c .args .f .den)) (c .lowest .result)
+terms-are : (c : tie.After-lowest) → InLowest (natAbs (begun c .args .f .num)) (natAbs (begun c .args .f .den)) (c .lowest .result)
 terms-are c =
     let top = sized c .size .ensures ∙ ap natAbs (toZ-ofZ (num-fits (begun c))) in
     let bottom = sized2 c .size2 .ensures ∙ ap natAbs (toZ-ofZ (den-fits (begun c))) in

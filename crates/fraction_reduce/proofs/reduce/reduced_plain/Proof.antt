@@ -1,4 +1,4 @@
--- `fraction_reduce::reduce::lowered` meets its contract: it tests the two numbers that the rule tests.
+-- `fraction_reduce::reduce::reduced_plain` meets its contract: it tests the two numbers that the rule tests.
 -- Assumes nothing.
 use mathlib.Core.Path.{_≡_, sym, ap, _∙_}
 use native.Mathlib.Omega.{arith}
@@ -8,11 +8,11 @@ use mir.Facts.{toZ-ofZ}
 use Rattle.whole.specs.Signed.{signed}
 use Rattle.fraction.specs.Exact.{frac}
 use Rattle.fraction.specs.Limits.{limit}
-use Rattle.fraction_reduce.specs.Contract.{Lowest}
+use Rattle.fraction_reduce.specs.Contract.{InLowest}
 use Rattle.fraction_reduce.proofs.Linked.{answers-fits, answers-wide, answers-deep}
 use Rattle.fraction_reduce.proofs.Lowest.{frac-num, frac-den, frac-size}
-use Rattle.fraction_reduce.proofs.reduce.lowered.Statement.{statement}
-use Rattle.fraction_reduce.proofs.reduce.lowered.Tie as tie
+use Rattle.fraction_reduce.proofs.reduce.reduced_plain.Statement.{statement}
+use Rattle.fraction_reduce.proofs.reduce.reduced_plain.Tie as tie
 
 -- the places, each found by its type
 abbrev begun : tie.After-lowest → tie.Start
@@ -28,7 +28,7 @@ lowest-requires : tie.Need-lowest-requires
 lowest-requires c κs = search needs
 
 -- what is left of the two numbers
-terms-are : (c : tie.After-lowest) → Lowest (natAbs (begun c .args .n)) (begun c .args .d) (c .lowest .result)
+terms-are : (c : tie.After-lowest) → InLowest (natAbs (begun c .args .n)) (begun c .args .d) (c .lowest .result)
 terms-are c = rw (sized c .size-wide .ensures ∙ ap natAbs (toZ-ofZ (begun c .fits .n))) at (c .lowest .ensures)
 
 top-is : (c : tie.After-lowest) → c .lowest .result .top ≡ natAbs (frac (begun c .args .n) (begun c .args .d) .num)
@@ -63,6 +63,6 @@ returns-3 c =
     let num = (rw (toZ-ofZ (start .fits .n)) at (c .made .ensures .above)) ∙ ap (signed n) (terms-are terms .above) ∙ sym (frac-num n d (start .pre .positive)) in
     answers-fits (frac n d) num (c .made .ensures .below ∙ ap pos (bottom-is terms)) (omega (arith, top-is terms)) (omega (arith, bottom-is terms))
 
-pub lowered-spec : {M : Type 1} → statement M
-lowered-spec =
+pub reduced-plain-spec : {M : Type 1} → statement M
+reduced-plain-spec =
     tie.close (tie.spec size-wide-requires lowest-requires returns returns-2 made-requires returns-3)

@@ -20,7 +20,6 @@ use Rattle.fraction_reduce.specs.declared.Made.the-variants.{Fits}
 use Rattle.fraction_reduce.proofs.Linked.{answers-fits}
 use Rattle.fraction_reduce.proofs.Lowest.{gcd-nothing, frac-num, frac-den, lowest-num, lowest-den, value-num, value-den, zero-den}
 use Rattle.fraction_reduce.proofs.Operations.{times-is, plus-is}
-use Rattle.whole.proofs.Steps.{gcd-stops, gcd-step}
 
 -- A word of 32 bits that has the bits of a constant is that constant.
 pub word-is : {x : ℤ} (k : ℤ) → T (ltb (mag k) (2 ^ 31)) → SFits w32 x → ofZ w32 x ≡ ofZ w32 k → x ≡ k

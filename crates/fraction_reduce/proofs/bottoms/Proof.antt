@@ -9,7 +9,8 @@ use borrow.Author.Needs.{needs}
 use mir.Facts.{toZ-ofZ}
 use mir.Syntax.{w64}
 use Rattle.fraction_reduce.proofs.Operations.{good-den}
-use Rattle.whole.proofs.Words.{kept, size-product}
+use Rattle.whole.proofs.Sizes.{size-product}
+use Rattle.whole.proofs.Words.{kept}
 use Rattle.fraction_reduce.proofs.bottoms.Statement.{statement}
 use Rattle.fraction_reduce.proofs.bottoms.Tie as tie
 

@@ -1,7 +1,6 @@
 -- `fraction_reduce::lowered` meets its contract: what is divided by the greatest common divisor gets no larger.
 -- Assumes nothing.
-use mathlib.Core.Path.{_≡_, ap, ap₂, _∙_}
-use Prim.Native.Nat.{_/_}
+use mathlib.Core.Path.{ap, ap₂, _∙_}
 use native.Mathlib.Nat.{div-le-self}
 use native.Mathlib.Omega.{arith}
 use lib.IntN.{pos, natAbs}

@@ -1,6 +1,5 @@
 -- `record_term::below1` meets its contract: one test is the test of all.
 -- Assumes nothing.
-use borrow.Author.Needs.{needs}
 use mathlib.Core.Path.{sym}
 use mathlib.Core.Bool.{and-true}
 use Rattle.rules_problem.specs.Record.{every}

@@ -7,10 +7,11 @@ use borrow.Author.Needs.{needs}
 use mir.Facts.{toZ-ofZ}
 use Rattle.whole.specs.Signed.{signed}
 use Rattle.whole.proofs.Divisors.{gcd-one}
+use Rattle.whole.proofs.Sizes.{signed-size}
 use Rattle.fraction.specs.Exact.{frac}
 use Rattle.fraction.specs.Limits.{limit}
 use Rattle.fraction_reduce.proofs.Linked.{answers-wide}
-use Rattle.fraction_reduce.proofs.Lowest.{lowest-num, signed-self}
+use Rattle.fraction_reduce.proofs.Lowest.{lowest-num}
 use Rattle.fraction_reduce.proofs.Shortcuts.{answers-lowest}
 use Rattle.fraction_reduce.proofs.reduce.whole.Statement.{statement}
 use Rattle.fraction_reduce.proofs.reduce.whole.Tie as tie
@@ -43,7 +44,7 @@ returns-2 c =
     let sized : tie.After-size-wide = search in
     let start = begun sized in
     let n = start .args .n in
-    let num = (rw (toZ-ofZ (start .fits .n)) at (c .made .ensures .above)) ∙ ap (signed n) (size-is sized) ∙ signed-self n in
+    let num = (rw (toZ-ofZ (start .fits .n)) at (c .made .ensures .above)) ∙ ap (signed n) (size-is sized) ∙ signed-size n in
     answers-lowest n 1 (omega arith) (gcd-one (natAbs n)) num (c .made .ensures .below) (omega (arith, size-is sized)) (omega arith)
 
 pub whole-spec : {M : Type 1} → statement M

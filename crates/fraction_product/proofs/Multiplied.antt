@@ -14,14 +14,14 @@ use Rattle.fraction.specs.Limits.{tested, times}
 use Rattle.fraction.specs.declared.Fraction.{Fraction}
 use Rattle.fraction_reduce.specs.Contract.{Bottoms}
 use Rattle.fraction_reduce.specs.Values.{Good, Stands, Answers}
-use Rattle.fraction_reduce.specs.declared.Made.{Made}
-use Rattle.fraction_reduce.specs.declared.Made.the-variants.{Fits}
+use Rattle.fraction_reduce.specs.declared.Tested.{Tested}
+use Rattle.fraction_reduce.specs.declared.Tested.the-variants.{Fits}
 use Rattle.fraction_reduce.proofs.Operations.{good-num, good-den, times-is}
 use Rattle.fraction_reduce.proofs.Shortcuts.{word-is, times-nothing, times-one, times-minus, times-comm}
 use Rattle.fraction_product.specs.Contract.{WholeFactor}
 
 -- The order of two factors does not matter.
-pub exchanged : (a b : Fraction) {r : Made} → Answers r (times (value b) (value a)) → Answers r (times (value a) (value b))
+pub exchanged : (a b : Fraction) {r : Tested} → Answers r (times (value b) (value a)) → Answers r (times (value a) (value b))
 exchanged a b {r} answers = subst (Answers r) (times-comm (value b) (value a)) answers
 
 module _ {a b : Fraction} (left : Good a) (right : Good b) where
@@ -40,7 +40,7 @@ module _ {a b : Fraction} (left : Good a) (right : Good b) where
   whole-second one = record { first = right; second = left; whole = word-is (pos 1) tt (good-den right) one }
 
   -- What is reduced is what the rule reduces.
-  pub multiplied : {n : ℤ} {d : ℕ} {r : Made} → mag n < 2 ^ 63 → Product (toZ w32 (ofZ w32 (a .num))) (toZ w32 (ofZ w32 (b .num))) n → Bottoms a b d → Answers r (tested (frac (toZ w64 (ofZ w64 n)) d)) → Answers r (times (value a) (value b))
+  pub multiplied : {n : ℤ} {d : ℕ} {r : Tested} → mag n < 2 ^ 63 → Product (toZ w32 (ofZ w32 (a .num))) (toZ w32 (ofZ w32 (b .num))) n → Bottoms a b d → Answers r (tested (frac (toZ w64 (ofZ w64 n)) d)) → Answers r (times (value a) (value b))
   multiplied {n} {r = r} fits top bottom answers =
       let num = kept w64 n fits ∙ (rw (toZ-ofZ (good-num left), toZ-ofZ (good-num right)) at (top .is)) in
       subst (Answers r) (times-is left right num (bottom .is)) answers

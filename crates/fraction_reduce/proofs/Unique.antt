@@ -8,9 +8,9 @@ use Rattle.fraction.specs.Exact.{ℚ}
 use Rattle.fraction.specs.Made as rule
 use Rattle.fraction.specs.Made.{made, stopped}
 use Rattle.fraction.specs.declared.Fraction.{Fraction}
-use Rattle.fraction_reduce.specs.Values.{Stands, says, Sound, Answers}
-use Rattle.fraction_reduce.specs.declared.Made.the-variants.{Fits, Refused}
-use Rattle.fraction_reduce.specs.declared.Made.{Made}
+use Rattle.fraction_reduce.specs.Values.{Stands, says, FitsGood, Answers}
+use Rattle.fraction_reduce.specs.declared.Tested.the-variants.{Fits, Refused}
+use Rattle.fraction_reduce.specs.declared.Tested.{Tested}
 use Rattle.fraction_reduce.proofs.Lowest.{value-one-to-one}
 use Rattle.fraction_reduce.proofs.bottoms.Kinds as bottoms-kinds
 use Rattle.fraction_reduce.proofs.bottoms.Reads as bottoms
@@ -31,14 +31,14 @@ never-both : {q : ℚ} {k : ℕ} → _≡_ {A = rule.Made ℕ ℚ} (made q) (sto
 never-both e = let z : _≡_ {A = ℕ} 0 1 = cc in omega arith
 
 -- An answer that the rule's fixes, and a fraction that its exact value fixes.
-says-one-to-one : (r s : Made) → Sound r → Sound s → says r ≡ says s → r ≡ s
-unfolding says Sound
+says-one-to-one : (r s : Tested) → FitsGood r → FitsGood s → says r ≡ says s → r ≡ s
+unfolding says FitsGood
 says-one-to-one (Fits f) (Fits g) p q e = ap Fits (value-one-to-one p q (made-one-to-one e))
 says-one-to-one (Fits f) (Refused k) p q e = absurd (never-both e)
 says-one-to-one (Refused k) (Fits g) p q e = absurd (never-both (sym e))
 says-one-to-one (Refused k) (Refused l) p q e = ap Refused (refused-one-to-one e)
 
-pub answers-determined : {r s : Made} {answer : rule.Made ℕ ℚ} → Answers r answer → Answers s answer → r ≡ s
+pub answers-determined : {r s : Tested} {answer : rule.Made ℕ ℚ} → Answers r answer → Answers s answer → r ≡ s
 answers-determined {r} {s} p q = says-one-to-one r s (p .sound) (q .sound) (p .same ∙ sym (q .same))
 
 pub stands-determined : {f g : Fraction} {q : ℚ} → Stands f q → Stands g q → f ≡ g

@@ -13,7 +13,7 @@ ghost use Rattle.fraction_reduce.specs.Contract.{Raw, Bottoms};
 ghost use Rattle.fraction_reduce.specs.Values.{Good, Stands};
 
 // What an operation answers: the fraction made, or the number of its refusal.
-pub enum Made {
+pub enum Tested {
     Fits(Fraction),
     Refused(u8),
 }

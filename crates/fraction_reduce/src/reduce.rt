@@ -1,5 +1,5 @@
 // A whole number over another, in lowest terms and tested against the limits.
-use crate::Made;
+use crate::Tested;
 use answer::RANGE;
 use fraction::Fraction;
 use whole_gcd::greatest;
@@ -46,19 +46,19 @@ pub fn made(like: i64, top: u64, bottom: u64) -> Fraction
 }
 
 // n / 1 is in lowest terms as it stands.
-fn whole(n: i64) -> Made
+fn whole(n: i64) -> Tested
     requires { ⌜ natAbs n < 2 ^ 63 ⌝ }
     ensures { λ r. ⌜ Answers r (tested (frac n 1)) ⌝ }
 {
     let units = size_wide(n);
     if LIMIT < units {
-        return Made::Refused(RANGE);
+        return Tested::Refused(RANGE);
     }
-    Made::Fits(made(n, units, 1))
+    Tested::Fits(made(n, units, 1))
 }
 
 // n / d in lowest terms, where both numbers are within the limits.
-fn reduced_plain(n: i64, d: u64) -> Made
+fn reduced_plain(n: i64, d: u64) -> Tested
     requires { ⌜ Reducible n d ⌝ }
     ensures { λ r. ⌜ Answers r (tested (frac n d)) ⌝ }
 {
@@ -66,16 +66,16 @@ fn reduced_plain(n: i64, d: u64) -> Made
     let top = terms.top;
     let bottom = terms.bottom;
     if LIMIT < top {
-        return Made::Refused(RANGE);
+        return Tested::Refused(RANGE);
     }
     if LIMIT < bottom {
-        return Made::Refused(RANGE);
+        return Tested::Refused(RANGE);
     }
-    Made::Fits(made(n, top, bottom))
+    Tested::Fits(made(n, top, bottom))
 }
 
 // The same, with no gcd where none is needed.
-pub fn reduced(n: i64, d: u64) -> Made
+pub fn reduced(n: i64, d: u64) -> Tested
     requires { ⌜ Reducible n d ⌝ }
     ensures { λ r. ⌜ Answers r (tested (frac n d)) ⌝ }
 {

@@ -12,8 +12,8 @@ use Rattle.fraction.specs.Limits.{tested, plus}
 use Rattle.fraction.specs.declared.Fraction.{Fraction}
 use Rattle.fraction_reduce.specs.Contract.{Bottoms}
 use Rattle.fraction_reduce.specs.Values.{Good, Answers}
-use Rattle.fraction_reduce.specs.declared.Made.{Made}
-use Rattle.fraction_reduce.specs.declared.Made.the-variants.{Fits}
+use Rattle.fraction_reduce.specs.declared.Tested.{Tested}
+use Rattle.fraction_reduce.specs.declared.Tested.the-variants.{Fits}
 use Rattle.fraction_reduce.proofs.Operations.{good-num, plus-is}
 use Rattle.fraction_reduce.proofs.Shortcuts.{word-is, plus-nothing, plus-comm}
 use Rattle.fraction_sum.specs.Contract.{Cross}
@@ -27,5 +27,5 @@ module _ {a b : Fraction} (left : Good a) (right : Good b) where
   second-zero zero = subst (Answers (Fits a)) (plus-comm (value b) (value a)) (plus-nothing right left (word-is (pos 0) tt (good-num right) zero))
 
   -- What is reduced is what the rule reduces.
-  pub crossed : {n : ℤ} {d : ℕ} {r : Made} → mag n < 2 ^ 63 → Cross a b n → Bottoms a b d → Answers r (tested (frac (toZ w64 (ofZ w64 n)) d)) → Answers r (plus (value a) (value b))
+  pub crossed : {n : ℤ} {d : ℕ} {r : Tested} → mag n < 2 ^ 63 → Cross a b n → Bottoms a b d → Answers r (tested (frac (toZ w64 (ofZ w64 n)) d)) → Answers r (plus (value a) (value b))
   crossed {n} {r = r} fits top bottom answers = subst (Answers r) (plus-is left right (kept w64 n fits ∙ top .is) (bottom .is)) answers

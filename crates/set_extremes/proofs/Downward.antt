@@ -12,7 +12,7 @@ use lib.Dec.{eqb}
 use lib.Pow.{pow-pos}
 use Rattle.set_members.specs.Sets.{holds}
 use Rattle.set_members.proofs.Digits.{holds-and, holds-below, holds-beyond}
-use Rattle.set_extremes.specs.Ends.{Last}
+use Rattle.set_extremes.specs.Extremes.{Last}
 
 -- A number of just so many binary digits has the highest of them.
 highest-inside : (set i : ℕ) → set < 2 ^ suc i → 2 ^ suc i ≤ 2 * set + 1 → holds set i ≡ true

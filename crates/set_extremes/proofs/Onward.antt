@@ -7,7 +7,7 @@ use native.Mathlib.Decide.{decLt}
 use native.Mathlib.Omega.{arith}
 use Rattle.set_members.specs.Sets.{holds}
 use Rattle.set_members.proofs.Digits.{holds-none, holds-beyond, holds-shifted}
-use Rattle.set_extremes.specs.Ends.{Least, LeastBelow, Next}
+use Rattle.set_extremes.specs.Extremes.{Least, LeastBelow, Next}
 
 module _ (set from : ℕ) where
   -- From 64 on there is nothing below 64.

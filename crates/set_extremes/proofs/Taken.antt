@@ -10,7 +10,7 @@ use lib.Bits.{bitAnd}
 use lib.Dec.{eqb, eqb·suc-zero, eqb·suc-suc}
 use Rattle.set_members.specs.Sets.{holds}
 use Rattle.set_members.proofs.Digits.{holds-zero, holds-suc, holds-none, holds-and}
-use Rattle.set_extremes.specs.Ends.{Least, Next, Rest}
+use Rattle.set_extremes.specs.Extremes.{Least, Next, Rest}
 use Rattle.set_extremes.proofs.Lowest.{lowest}
 use Rattle.set_extremes.proofs.Onward.{least-first, next-determined}
 

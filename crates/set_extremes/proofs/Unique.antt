@@ -8,7 +8,7 @@ use native.Mathlib.Omega.{arith}
 use Rattle.unique.specs.Twice.{Twice}
 use Rattle.set_members.specs.Sets.{holds}
 use Rattle.set_members.proofs.Unique.{sets-determined}
-use Rattle.set_extremes.specs.Ends.{Next}
+use Rattle.set_extremes.specs.Extremes.{Next}
 use Rattle.set_extremes.proofs.Downward.{last-determined}
 use Rattle.set_extremes.proofs.Onward.{next-determined}
 use Rattle.set_extremes.proofs.first.Kinds as first-kinds

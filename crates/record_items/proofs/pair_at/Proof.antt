@@ -2,7 +2,7 @@
 -- Assumes nothing.
 use borrow.Author.Needs.{needs}
 use native.Mathlib.Omega.{arith}
-use Rattle.record_items.specs.Held.{pairOf}
+use Rattle.record_items.specs.Held.{asPair}
 use Rattle.record_cursor.proofs.There.{second-side}
 use Rattle.record_items.proofs.Holding.{pair-within, pair-held}
 use Rattle.record_items.proofs.pair_at.Statement.{statement}
@@ -42,7 +42,7 @@ cast-t11 : tie.Need-cast-t11
 cast-t11 c = search needs
 
 returns : tie.Need-returns
-unfolding pairOf
+unfolding asPair
 returns c =
     let start : tie.Start = search in
     let left : tie.After-read = search in

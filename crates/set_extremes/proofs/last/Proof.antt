@@ -6,7 +6,7 @@ use lib.Bits.{bitAnd}
 use lib.Pow.{pow-pos}
 use borrow.Author.Needs.{needs}
 use Rattle.set_members.proofs.Digits.{one-shifted}
-use Rattle.set_extremes.specs.Ends.{Last}
+use Rattle.set_extremes.specs.Extremes.{Last}
 use Rattle.set_extremes.proofs.Downward.{last-all, last-below}
 use Rattle.set_extremes.proofs.last.Statement.{statement}
 use Rattle.set_extremes.proofs.last.Tie as tie

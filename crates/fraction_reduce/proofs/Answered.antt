@@ -5,19 +5,19 @@ use Prim.Native.Nat.{ℕ}
 use Rattle.fraction.specs.declared.Fraction.{Fraction}
 use Rattle.fraction.specs.Exact.{ℚ, value}
 use Rattle.fraction.specs.Made as rule
-use Rattle.fraction_reduce.specs.Values.{Good, says, Sound, Answers}
-use Rattle.fraction_reduce.specs.declared.Made.{Made}
-use Rattle.fraction_reduce.specs.declared.Made.the-variants.{Fits, Refused}
+use Rattle.fraction_reduce.specs.Values.{Good, says, FitsGood, Answers}
+use Rattle.fraction_reduce.specs.declared.Tested.{Tested}
+use Rattle.fraction_reduce.specs.declared.Tested.the-variants.{Fits, Refused}
 
-module _ {r : Made} {answer : rule.Made ℕ ℚ} (answers : Answers r answer) where
+module _ {r : Tested} {answer : rule.Made ℕ ℚ} (answers : Answers r answer) where
   -- The fraction of an answer is what the rule makes, and is good.
   pub fits-made : {f : Fraction} → r ≡ Fits f → answer ≡ rule.made (value f)
   unfolding says
   fits-made e = sym (answers .same) ∙ ap says e
 
   pub fits-good : {f : Fraction} → r ≡ Fits f → Good f
-  unfolding Sound
-  fits-good e = subst Sound e (answers .sound)
+  unfolding FitsGood
+  fits-good e = subst FitsGood e (answers .sound)
 
   -- A refusal is the rule's.
   pub refused-stopped : {number : ℕ} → r ≡ Refused number → answer ≡ rule.stopped number

@@ -13,8 +13,8 @@ use Rattle.fraction.specs.Limits.{limit, within, tested}
 use Rattle.fraction.specs.Made.{made, stopped}
 use Rattle.answer.specs.Refusals.{RANGE}
 use Rattle.fraction.specs.declared.Fraction.{Fraction}
-use Rattle.fraction_reduce.specs.Values.{Good, Stands, says, Sound, Answers}
-use Rattle.fraction_reduce.specs.declared.Made.the-variants.{Fits, Refused}
+use Rattle.fraction_reduce.specs.Values.{Good, Stands, says, FitsGood, Answers}
+use Rattle.fraction_reduce.specs.declared.Tested.the-variants.{Fits, Refused}
 use Rattle.fraction_reduce.proofs.Lowest.{ℚ-same, value-num, value-den}
 
 -- A struct with the two numbers of an exact fraction, within the limits, stands for it.
@@ -53,17 +53,17 @@ tested-deep q deep =
 
 -- The fraction made is the answer, where both of its numbers are within the limits.
 pub answers-fits : {f : Fraction} (q : ℚ) → f .num ≡ q .num → f .den ≡ pos (q .den) → natAbs (q .num) ≤ limit → q .den ≤ limit → Answers (Fits f) (tested q)
-unfolding says Sound
+unfolding says FitsGood
 answers-fits q n d wide deep =
     let s = stands q n d wide deep in
     record { same = ap made (s .same) ∙ sym (tested-within q wide deep); sound = s .good }
 
 -- The refusal is the answer, where the numerator is beyond the limit.
 pub answers-wide : (q : ℚ) → limit < natAbs (q .num) → Answers (Refused 7) (tested q)
-unfolding says Sound RANGE
+unfolding says FitsGood RANGE
 answers-wide q wide = record { same = sym (tested-wide q wide); sound = tt }
 
 -- The refusal is the answer, where the denominator is beyond the limit.
 pub answers-deep : (q : ℚ) → limit < q .den → Answers (Refused 7) (tested q)
-unfolding says Sound RANGE
+unfolding says FitsGood RANGE
 answers-deep q deep = record { same = sym (tested-deep q deep); sound = tt }

@@ -9,7 +9,7 @@ use native.Mathlib.Omega.{arith}
 use lib.IntN.{ℤ, pos, negsuc, natAbs}
 use Rattle.whole.specs.Gcd.{gcd}
 use Rattle.whole.specs.Signed.{signed}
-use Rattle.whole.proofs.Sizes.{size-signed}
+use Rattle.whole.proofs.Sizes.{size-signed, signed-size}
 use Rattle.whole.proofs.Steps.{gcd-stops, gcd-step}
 use Rattle.fraction.specs.Exact.{ℚ, frac, value}
 use Rattle.fraction.specs.declared.Fraction.{Fraction}
@@ -39,14 +39,9 @@ frac-den n (suc d) h = refl
 pub frac-size : (n : ℤ) (d : ℕ) → 0 < d → natAbs (frac n d .num) ≡ natAbs n / gcd (natAbs n) d
 frac-size n d h = ap natAbs (frac-num n d h) ∙ size-signed n (natAbs n / gcd (natAbs n) d)
 
-pub signed-self : (n : ℤ) → signed n (natAbs n) ≡ n
-unfolding signed
-signed-self (pos n) = refl
-signed-self (negsuc n) = refl
-
 -- Two numbers that are in lowest terms stay as they are.
 pub lowest-num : (n : ℤ) (d : ℕ) → 0 < d → gcd (natAbs n) d ≡ 1 → frac n d .num ≡ n
-lowest-num n d h e = frac-num n d h ∙ ap (λ g. signed n (natAbs n / g)) e ∙ ap (signed n) (div-one (natAbs n)) ∙ signed-self n
+lowest-num n d h e = frac-num n d h ∙ ap (λ g. signed n (natAbs n / g)) e ∙ ap (signed n) (div-one (natAbs n)) ∙ signed-size n
 
 pub lowest-den : (n : ℤ) (d : ℕ) → 0 < d → gcd (natAbs n) d ≡ 1 → frac n d .den ≡ d
 lowest-den n d h e = frac-den n d h ∙ ap (λ g. d / g) e ∙ div-one d

@@ -1,23 +1,23 @@
 -- The operations on good structs, and the rule's on their exact fractions.
 -- Main results: `times-is`, `plus-is`, `negated-is`, `inverse-is`, `inverse-zero`, `lowest-stands`. Assume nothing.
-use mathlib.Core.Path.{_≡_, sym, ap, ap₂, _∙_, subst}
-use Prim.Native.Nat.{ℕ, _*_, _/_, _^_, _<_, _≤_, _∣_}
-use native.Mathlib.Nat.{mul-one, mul-le-mul, eq-one-of-dvd-one, div-le-self}
+use mathlib.Core.Path.{_≡_, sym, ap, ap₂, _∙_}
+use Prim.Native.Nat.{ℕ, _*_, _/_, _^_, _<_, _≤_}
+use native.Mathlib.Nat.{mul-le-mul, div-le-self}
 use native.Mathlib.Omega.{arith}
-use lib.IntN.{ℤ, pos, negsuc, negℤ, natAbs, _+ℤ_, _*ℤ_}
+use lib.IntN.{ℤ, pos, negℤ, natAbs, _+ℤ_, _*ℤ_}
 use mir.Syntax.{w32}
 use mir.Val.{SFits}
 use Rattle.whole.specs.Gcd.{gcd}
 use Rattle.whole.specs.Signed.{signed}
-use Rattle.whole.proofs.Divisors.{gcd-divides-left, gcd-divides-right, gcd-greatest}
-use Rattle.whole.proofs.Sizes.{size-negated, size-signed}
+use Rattle.whole.proofs.Lowest.{gcd-symmetric}
+use Rattle.whole.proofs.Sizes.{size-negated, size-product, size-signed, size-zero}
 use Rattle.fraction.specs.Exact.{frac, whole, zeroℚ, negℚ, inverse, _+ℚ_, _*ℚ_, value}
 use Rattle.fraction.specs.Limits.{limit, tested, plus, times}
 use Rattle.fraction.specs.declared.Fraction.{Fraction}
 use Rattle.fraction_reduce.specs.Values.{Good, Stands}
 use Rattle.fraction_reduce.proofs.Linked.{stands}
 use Rattle.fraction_reduce.proofs.Lowest.{frac-num, frac-den, frac-size, lowest-num, lowest-den, value-num, value-den, zero-den}
-use Rattle.whole.proofs.Words.{fits-size, size-product}
+use Rattle.whole.proofs.Words.{fits-size}
 
 -- a word of 32 bits holds the numbers of a good struct
 pub good-num : {f : Fraction} → Good f → SFits w32 (f .num)
@@ -61,14 +61,6 @@ negated-is {a} good n d =
     (omega (arith, size-negated (value a .num), ap natAbs (value-num good)))
     (omega (arith, value-den good))
 
--- Upside down, two numbers still have no common divisor but 1.
-coprime-other : (a b : ℕ) → gcd a b ≡ 1 → gcd b a ≡ 1
-coprime-other a b e =
-    let both : gcd b a ∣ gcd a b * 1 =
-    gcd-greatest a b 1 (gcd b a) (subst (λ x. gcd b a ∣ x) (sym (mul-one a)) (gcd-divides-right b a)) (subst (λ x. gcd b a ∣ x) (sym (mul-one b)) (gcd-divides-left b a))
-    in
-    eq-one-of-dvd-one (subst (λ x. gcd b a ∣ x) (mul-one (gcd a b) ∙ e) both)
-
 -- A struct with the two numbers exchanged, and the sign kept above, stands for the inverse.
 pub inverse-is : {a f : Fraction} → Good a → 0 < natAbs (a .num) → f .num ≡ signed (a .num) (natAbs (a .den)) → f .den ≡ pos (natAbs (a .num)) → Stands f (inverse (value a))
 unfolding inverse
@@ -78,7 +70,7 @@ inverse-is {a} good above n d =
     in
     let size = size-signed (a .num) (natAbs (a .den)) in
     let low : gcd (natAbs (signed (a .num) (natAbs (a .den)))) (natAbs (a .num)) ≡ 1 =
-    ap (λ x. gcd x (natAbs (a .num))) size ∙ coprime-other (natAbs (a .num)) (natAbs (a .den)) (good .lowest)
+    ap (λ x. gcd x (natAbs (a .num))) size ∙ gcd-symmetric (natAbs (a .den)) (natAbs (a .num)) ∙ good .lowest
     in
     let num = lowest-num (signed (a .num) (natAbs (a .den))) (natAbs (a .num)) above low in
     let den = lowest-den (signed (a .num) (natAbs (a .den))) (natAbs (a .num)) above low in
@@ -86,17 +78,13 @@ inverse-is {a} good above n d =
     (omega (arith, ap natAbs num)) (omega arith))
 
 -- 0 is its own inverse by the rule.
-no-size : (z : ℤ) → natAbs z ≡ 0 → z ≡ pos 0
-no-size (pos n) none = ap pos none
-no-size (negsuc n) none = absurd (omega arith)
-
 pub inverse-zero : {a : Fraction} → Good a → natAbs (a .num) ≡ 0 → Stands a (inverse (value a))
 unfolding inverse frac zeroℚ whole limit
 inverse-zero {a} good none =
     let v : inverse (value a) ≡ frac (signed (a .num) (natAbs (a .den))) 0 =
     ap₂ (λ x y. frac (signed x y) (natAbs x)) (value-num good) (value-den good) ∙ ap (frac (signed (a .num) (natAbs (a .den)))) none
     in
-    let zero = no-size (a .num) none in
+    let zero = size-zero (a .num) none in
     rw v (stands zeroℚ zero (zero-den good zero) (omega arith) (omega arith))
 
 -- A struct with two numbers divided by their greatest common divisor stands for their fraction.

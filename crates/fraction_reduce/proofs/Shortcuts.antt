@@ -16,11 +16,10 @@ use Rattle.fraction.specs.Exact.{ℚ, frac, negℚ, _+ℚ_, _*ℚ_, value}
 use Rattle.fraction.specs.Limits.{limit, tested, plus, times}
 use Rattle.fraction.specs.declared.Fraction.{Fraction}
 use Rattle.fraction_reduce.specs.Values.{Good, Stands, Answers}
-use Rattle.fraction_reduce.specs.declared.Made.the-variants.{Fits}
+use Rattle.fraction_reduce.specs.declared.Tested.the-variants.{Fits}
 use Rattle.fraction_reduce.proofs.Linked.{answers-fits}
 use Rattle.fraction_reduce.proofs.Lowest.{gcd-nothing, frac-num, frac-den, lowest-num, lowest-den, value-num, value-den, zero-den}
 use Rattle.fraction_reduce.proofs.Operations.{times-is, plus-is}
-use Rattle.whole.proofs.Steps.{gcd-stops, gcd-step}
 
 -- A word of 32 bits that has the bits of a constant is that constant.
 pub word-is : {x : ℤ} (k : ℤ) → T (ltb (mag k) (2 ^ 31)) → SFits w32 x → ofZ w32 x ≡ ofZ w32 k → x ≡ k

@@ -8,8 +8,8 @@ use Rattle.fraction.specs.Exact.{ℚ, value}
 use Rattle.fraction.specs.Made as rule
 use Rattle.fraction.specs.Limits.{limit}
 use Rattle.fraction.specs.declared.Fraction.{Fraction}
-use Rattle.fraction_reduce.specs.declared.Made.the-variants.{Fits, Refused}
-use Rattle.fraction_reduce.specs.declared.Made.{Made}
+use Rattle.fraction_reduce.specs.declared.Tested.the-variants.{Fits, Refused}
+use Rattle.fraction_reduce.specs.declared.Tested.{Tested}
 
 -- 01, The run: "Numerators lie within -2,147,483,647 to 2,147,483,647, denominators within 1 to 2,147,483,647", in lowest terms
 pub record Good (f : Fraction) : Type 0 where
@@ -25,16 +25,16 @@ pub record Stands (f : Fraction) (q : ℚ) : Type 0 where
   pub same : value f ≡ q
 
 -- an operation's answer, as the rule's
-unfoldable pub says : Made → rule.Made ℕ ℚ
+unfoldable pub says : Tested → rule.Made ℕ ℚ
 says (Fits f) = rule.made (value f)
 says (Refused number) = rule.stopped number
 
 -- a fraction that was made is good
-unfoldable pub Sound : Made → Type 0
-Sound (Fits f) = Good f
-Sound (Refused number) = Unit {0}
+unfoldable pub FitsGood : Tested → Type 0
+FitsGood (Fits f) = Good f
+FitsGood (Refused number) = Unit {0}
 
 -- the answer is the rule's, and what was made is good
-pub record Answers (r : Made) (answer : rule.Made ℕ ℚ) : Type 0 where
+pub record Answers (r : Tested) (answer : rule.Made ℕ ℚ) : Type 0 where
   pub same : says r ≡ answer
-  pub sound : Sound r
+  pub sound : FitsGood r

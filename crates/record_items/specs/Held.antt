@@ -1,5 +1,5 @@
 -- A term and a pair of a problem that a byte string holds.
--- Main definitions: `TermHeld`, `PairHeld`, `pairOf`. Assumes nothing.
+-- Main definitions: `TermHeld`, `PairHeld`, `asPair`. Assumes nothing.
 use mathlib.Core.Path.{_≡_}
 use mathlib.Core.List.{List}
 use Prim.Native.Nat.{ℕ, _<_, _≤_}
@@ -20,5 +20,5 @@ pub record PairHeld (bytes : List ℕ) (n k : ℕ) : Type 0 where
   pub least : 1 ≤ k
   pub most : k ≤ field bytes 8 8
 
-unfoldable pub pairOf : Sides → Pair
-pairOf s = record { left = s .left; right = s .right }
+unfoldable pub asPair : Sides → Pair
+asPair s = record { left = s .left; right = s .right }

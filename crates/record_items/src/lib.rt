@@ -6,7 +6,7 @@ ghost use mathlib.Core.Path.{_≡_};
 ghost use Rattle.fraction.specs.Made.{made};
 ghost use Rattle.rules_problem.specs.Pairs.{pairThere};
 ghost use Rattle.rules_problem.specs.Problem.{termAt};
-ghost use Rattle.record_items.specs.Held.{TermHeld, PairHeld, pairOf};
+ghost use Rattle.record_items.specs.Held.{TermHeld, PairHeld, asPair};
 
 // The two terms of a pair.
 pub struct Sides {
@@ -25,7 +25,7 @@ pub fn term_at(bytes: &[u8], t: usize) -> Term
 // The sides of pair `k`, from 1, of a problem of `n` terms that was read.
 pub fn pair_at(bytes: &[u8], n: usize, k: usize) -> Sides
     requires { ⌜ PairHeld (now bytes) n k ⌝ }
-    ensures { λ r. ⌜ made (pairOf r) ≡ pairThere (now (bytes .entry)) n k ⌝ }
+    ensures { λ r. ⌜ made (asPair r) ≡ pairThere (now (bytes .entry)) n k ⌝ }
 {
     let start = Cursor {
         at: 32 + 64 * n + 16 * (k - 1),

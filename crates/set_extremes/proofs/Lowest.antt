@@ -9,7 +9,7 @@ use lib.Dec.{eqb}
 use lib.Count.{trailingZeros, under}
 use Rattle.set_members.specs.Sets.{holds}
 use Rattle.set_members.proofs.Digits.{holds-zero, holds-suc}
-use Rattle.set_extremes.specs.Ends.{Least}
+use Rattle.set_extremes.specs.Extremes.{Least}
 
 -- 0 is the least number in a set of an odd number.
 least-odd : (set : ℕ) → set % 2 ≡ 1 → Least set 0

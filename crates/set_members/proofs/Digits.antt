@@ -1,5 +1,5 @@
 -- What the operations on bits leave in a set.
--- Main results: `holds-and`, `holds-or`, `holds-xor`, `holds-one`, `holds-none`, `holds-below`, `holds-beyond`, `holds-all`, `holds-shifted`. Assume nothing.
+-- Main results: `of-bits`, `holds-and`, `holds-or`, `holds-xor`, `holds-one`, `holds-none`, `holds-below`, `holds-beyond`, `holds-all`, `holds-shifted`. Assume nothing.
 use mathlib.Core.Path.{_≡_, refl, sym, ap, ap₂, _∙_}
 use mathlib.Core.Bool.{Bool, true, false, not, _&&_, _||_, or-comm}
 use Prim.Native.Nat.{ℕ, zero, suc, _+_, _-_, _*_, _/_, _%_, _^_, _<_, _≤_, min, max}
@@ -20,23 +20,21 @@ pub holds-suc : (set k : ℕ) → holds set (suc k) ≡ holds (set / 2) k
 unfolding holds
 holds-suc set k = ap (λ x. eqb (x % 2) 1) (ap (λ p. set / p) (pow-succ' 2 k) ∙ sym (div-div-eq-div-mul set 2 (2 ^ k)))
 
+-- What holds of both bits of two numbers holds, whichever they are.
+pub of-bits : (P : ℕ → ℕ → Type 0) → P 0 0 → P 0 1 → P 1 0 → P 1 1 → (p q : ℕ) → p < 2 → q < 2 → P p q
+of-bits P none second first both zero zero hp hq = none
+of-bits P none second first both zero (suc zero) hp hq = second
+of-bits P none second first both (suc zero) zero hp hq = first
+of-bits P none second first both (suc zero) (suc zero) hp hq = both
+of-bits P none second first both zero (suc (suc q)) hp hq = absurd (omega arith)
+of-bits P none second first both (suc zero) (suc (suc q)) hp hq = absurd (omega arith)
+of-bits P none second first both (suc (suc p)) q hp hq = absurd (omega arith)
+
 last-both : (p q : ℕ) → p < 2 → q < 2 → eqb (min p q % 2) 1 ≡ (eqb p 1 && eqb q 1)
-last-both zero zero hp hq = refl
-last-both zero (suc zero) hp hq = refl
-last-both (suc zero) zero hp hq = refl
-last-both (suc zero) (suc zero) hp hq = refl
-last-both zero (suc (suc q)) hp hq = absurd (omega arith)
-last-both (suc zero) (suc (suc q)) hp hq = absurd (omega arith)
-last-both (suc (suc p)) q hp hq = absurd (omega arith)
+last-both = of-bits (λ p q. eqb (min p q % 2) 1 ≡ (eqb p 1 && eqb q 1)) refl refl refl refl
 
 last-either : (p q : ℕ) → p < 2 → q < 2 → eqb (max p q % 2) 1 ≡ (eqb p 1 || eqb q 1)
-last-either zero zero hp hq = refl
-last-either zero (suc zero) hp hq = refl
-last-either (suc zero) zero hp hq = refl
-last-either (suc zero) (suc zero) hp hq = refl
-last-either zero (suc (suc q)) hp hq = absurd (omega arith)
-last-either (suc zero) (suc (suc q)) hp hq = absurd (omega arith)
-last-either (suc (suc p)) q hp hq = absurd (omega arith)
+last-either = of-bits (λ p q. eqb (max p q % 2) 1 ≡ (eqb p 1 || eqb q 1)) refl refl refl refl
 
 -- Bit by bit, `&` is "and".
 pub holds-and : (a b k : ℕ) → holds (bitAnd a b) k ≡ (holds a k && holds b k)
@@ -60,13 +58,7 @@ one-of true b = not b
 one-of false b = b
 
 last-one : (p q : ℕ) → p < 2 → q < 2 → eqb (differ p q % 2) 1 ≡ one-of (eqb p 1) (eqb q 1)
-last-one zero zero hp hq = refl
-last-one zero (suc zero) hp hq = refl
-last-one (suc zero) zero hp hq = refl
-last-one (suc zero) (suc zero) hp hq = refl
-last-one zero (suc (suc q)) hp hq = absurd (omega arith)
-last-one (suc zero) (suc (suc q)) hp hq = absurd (omega arith)
-last-one (suc (suc p)) q hp hq = absurd (omega arith)
+last-one = of-bits (λ p q. eqb (differ p q % 2) 1 ≡ one-of (eqb p 1) (eqb q 1)) refl refl refl refl
 
 -- Bit by bit, `^` is "one of both".
 pub holds-xor : (a b k : ℕ) → holds (bitXor a b) k ≡ one-of (holds a k) (holds b k)

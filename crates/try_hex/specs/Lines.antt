@@ -1,5 +1,5 @@
 -- The lines of a text.
--- Main definitions: `lineLength`, `Ends`. Assumes nothing.
+-- Main definitions: `lineLength`, `LineEnds`. Assumes nothing.
 use mathlib.Core.Path.{_≡_}
 use mathlib.Core.Bool.{cond}
 use mathlib.Core.List.{List, [], _∷_}
@@ -13,7 +13,7 @@ lineLength [] = 0
 lineLength (b ∷ rest) = cond (eqb b 10) 1 (suc (lineLength rest))
 
 -- The first line of a text is `count` bytes long. The other two follow; whoever goes from line to line needs them.
-pub record Ends (text : List ℕ) (count : ℕ) : Type 0 where
+pub record LineEnds (text : List ℕ) (count : ℕ) : Type 0 where
   pub counted : count ≡ lineLength text
   pub inside : count ≤ length text
   pub onward : 0 < length text → 0 < count

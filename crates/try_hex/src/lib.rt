@@ -1,9 +1,8 @@
 // Lines of hexadecimal digits: the bytes that a line says, and where it ends.
 ghost use mathlib.Core.Path.{_≡_};
-ghost use lib.ListN.{length, take, drop};
-ghost use Rattle.list_text.specs.Wrote.{Wrote};
-ghost use Rattle.try_hex.specs.Digits.{digitOf, pairOf, firstOf, bytesOf};
-ghost use Rattle.try_hex.specs.Lines.{Ends};
+ghost use lib.ListN.{drop};
+ghost use Rattle.try_hex.specs.Digits.{digitOf, byteOf, firstOf, BytesRead};
+ghost use Rattle.try_hex.specs.Lines.{LineEnds};
 
 const NEWLINE: u8 = 10;
 
@@ -33,7 +32,7 @@ fn digit(b: u8) -> u8
 }
 
 fn pair(high: u8, low: u8) -> Said
-    ensures { λ r. ⌜ r ≡ pairOf high low ⌝ }
+    ensures { λ r. ⌜ r ≡ byteOf high low ⌝ }
 {
     let sixteens = digit(high);
     let ones = digit(low);
@@ -61,7 +60,7 @@ fn byte(text: &[u8], at: usize) -> Said
 
 // Reads the bytes that a text says from its start, as far as there is room: how many they are.
 pub fn read(text: &[u8], bytes: &mut [u8]) -> usize
-    ensures { λ r. ⌜ Wrote (take (length (now (bytes .entry))) (bytesOf (now (text .entry)))) 0 (now (bytes .entry)) (now (bytes .exit)) r ⌝ }
+    ensures { λ r. ⌜ BytesRead (now (text .entry)) (now (bytes .entry)) (now (bytes .exit)) r ⌝ }
 {
     let mut k: usize = 0;
     let mut at: usize = 0;
@@ -78,7 +77,7 @@ pub fn read(text: &[u8], bytes: &mut [u8]) -> usize
 
 // How many bytes the first line of a text has, with the newline that ends it.
 pub fn line_length(text: &[u8]) -> usize
-    ensures { λ r. ⌜ Ends (now (text .entry)) r ⌝ }
+    ensures { λ r. ⌜ LineEnds (now (text .entry)) r ⌝ }
 {
     let mut i: usize = 0;
     while i < text.len() {

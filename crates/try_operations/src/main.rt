@@ -1,6 +1,6 @@
 // The operations in code on every pair of 24 fractions, the limits' neighbours and cases M and N's numbers among them.
 use fraction::Fraction;
-use fraction_reduce::Made;
+use fraction_reduce::Tested;
 ghost use mathlib.Core.Path.{_≡_};
 ghost use mathlib.Core.Bool.{true};
 ghost use Rattle.fraction_reduce.specs.Values.{Good};
@@ -81,15 +81,23 @@ fn wide(x: u8) -> u64 {
     x as u64
 }
 
-fn show(made: Made) {
+fn show(made: Tested) {
     io::write_all(1, b" ");
     match made {
-        Made::Fits(f) => show_fraction(f),
-        Made::Refused(number) => {
+        Tested::Fits(f) => show_fraction(f),
+        Tested::Refused(number) => {
             io::write_all(1, b"refused ");
             io::print_decimal(1, wide(number));
         }
     }
+}
+
+// The run divides as it does here: by the inverse, which is never refused.
+fn quotient(a: Fraction, b: Fraction) -> Tested
+    requires { ⌜ Good a ⌝ }
+    requires { ⌜ Good b ⌝ }
+{
+    fraction_product::product(a, fraction_inverse::inverted(b))
 }
 
 // One line: product, quotient, sum, difference of a and b.
@@ -102,7 +110,7 @@ fn show_operations(a: Fraction, b: Fraction)
     show_fraction(b);
     io::write_all(1, b":");
     show(fraction_product::product(a, b));
-    show(fraction_product::quotient(a, b));
+    show(quotient(a, b));
     show(fraction_sum::sum(a, b));
     show(fraction_sum::difference(a, b));
     io::write_all(1, b"\n");

@@ -1,8 +1,8 @@
 -- Lowest terms: numbers with no common divisor but 1, and that a fraction has only one pair of them.
--- Main results: `euclid-lemma`, `gcd-symmetric`, `gcd-scaled`, `lowest-unique`, `lowest-uniqueℤ`. Assume nothing.
+-- Main results: `euclid-lemma`, `gcd-symmetric`, `lowest-unique`, `lowest-uniqueℤ`. Assume nothing.
 use mathlib.Core.Path.{_≡_, sym, ap, _∙_}
 use Prim.Native.Nat.{ℕ, _*_, _<_, _∣_}
-use native.Mathlib.Nat.{dvd-mul-left, dvd-mul-right, dvd-antisymm, mul-dvd-mul-right, mul-one, one-mul, zero-mul, eq-of-mul-eq-mul-right}
+use native.Mathlib.Nat.{dvd-mul-left, dvd-mul-right, dvd-antisymm, mul-one, one-mul, zero-mul, eq-of-mul-eq-mul-right}
 use lib.IntN.{ℤ, pos, natAbs, _*ℤ_}
 use Rattle.whole.specs.Gcd.{gcd}
 use Rattle.whole.proofs.Commutative.{mul-right-cancel}
@@ -20,12 +20,6 @@ gcd-symmetric a b = dvd-antisymm (turned a b) (turned b a)
   where
     turned : (a b : ℕ) → gcd a b ∣ gcd b a
     turned a b = gcd-common b a (gcd a b) (gcd-divides-right a b) (gcd-divides-left a b)
-
--- The greatest common divisor of two numbers, each times c, is theirs times c.
-pub gcd-scaled : (a b c : ℕ) → gcd (a * c) (b * c) ≡ gcd a b * c
-gcd-scaled a b c = dvd-antisymm
-    (gcd-greatest a b c _ (gcd-divides-left (a * c) (b * c)) (gcd-divides-right (a * c) (b * c)))
-    (gcd-common (a * c) (b * c) _ (mul-dvd-mul-right _ (gcd-divides-left a b) c) (mul-dvd-mul-right _ (gcd-divides-right a b) c))
 
 -- Euclid's lemma: what divides a product and has no common divisor with its first factor divides the second.
 pub euclid-lemma : (a b c : ℕ) → gcd a b ≡ 1 → a ∣ b * c → a ∣ c

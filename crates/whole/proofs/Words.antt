@@ -8,12 +8,12 @@ use native.Mathlib.Omega.{arith}
 use lib.Dec.{T, ltb}
 use lib.IntN.{ℤ, pos, negsuc, negℤ, natAbs, _+ℤ_, _-ℤ_, _*ℤ_, +ℤ-idl}
 use lib.Signed.{mag, ltZ, nonNeg}
-use borrow.Author.Tests.{le-ltb, ltb-true, ltb-false}
+use borrow.Author.Tests.{le-ltb}
 use mir.Facts.{toZ-ofZ}
 use mir.Syntax.{Width, w32, w64}
 use mir.Val.{Fits, SFits, hbits, toZ, ofZ}
 use Rattle.whole.specs.Signed.{signed}
-use Rattle.whole.proofs.Sizes.{size-negated}
+use Rattle.whole.proofs.Sizes.{size-negated, size-product}
 
 mag-within : (z : ℤ) → mag z ≤ natAbs z
 mag-within (pos n) = omega arith
@@ -33,13 +33,6 @@ size-sum (pos a) (pos b) = omega arith
 size-sum (pos a) (negsuc b) = size-either (ltb a (suc b)) (suc b - suc a) (a - suc b) (a + suc b) (omega arith) (omega arith)
 size-sum (negsuc a) (pos b) = size-either (ltb b (suc a)) (suc a - suc b) (b - suc a) (suc a + b) (omega arith) (omega arith)
 size-sum (negsuc a) (negsuc b) = omega arith
-
--- The size of a product is the product of the sizes.
-pub size-product : (a b : ℤ) → natAbs (a *ℤ b) ≡ natAbs a * natAbs b
-size-product (pos a) (pos b) = refl
-size-product (pos a) (negsuc b) = size-negated (pos (a * suc b))
-size-product (negsuc a) (pos b) = size-negated (pos (suc a * b))
-size-product (negsuc a) (negsuc b) = refl
 
 -- a number whose size is below half the word's range fits
 pub fits-size : (w : Width) (z : ℤ) → natAbs z < 2 ^ hbits w → SFits w z

@@ -14,7 +14,7 @@ lowered-requires : tie.Need-lowered-requires
 unfolding Holding limit
 lowered-requires c κs =
     let written : Written (c .before .kind .given .0 .0) = subst (Holding Written) (c .before .kind .given .1) (c .before .before .before .pre) in
-    omega arith
+    record { least = omega arith; below = omega arith; above = omega arith }
 
 enum-known-kind-2 : tie.Need-enum-known-kind-2
 enum-known-kind-2 c = search needs
@@ -23,7 +23,7 @@ lowered-requires-2 : tie.Need-lowered-requires-2
 unfolding Holding limit
 lowered-requires-2 c κs =
     let written : Written (c .before .kind2 .given .0 .0) = subst (Holding Written) (c .before .kind2 .given .1) (c .before .before .before .pre) in
-    omega arith
+    record { least = omega arith; below = omega arith; above = omega arith }
 
 returns : tie.Need-returns
 returns c = lowered-constant (c .before .before .kind .given .1) (c .lowered .ensures)

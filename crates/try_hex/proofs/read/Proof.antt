@@ -1,34 +1,38 @@
--- `try_hex::read` meets its contract. The loop's invariant: the first k bytes that the text says are written, and what its places from 2k on
+-- `try_hex::read` meets its contract. The loop's invariant: the first k bytes that the text says are written, and what its places from `at` on
 -- say is what is left. Assumes nothing.
-use mathlib.Core.Path.{_≡_, refl, sym, _∙_}
-use mathlib.Core.List.{List}
-use Prim.Native.Nat.{ℕ, _-_, _≤_, _<_}
+use mathlib.Core.Path.{_≡_, sym, _∙_}
+use Prim.Native.Nat.{_-_}
 use native.Mathlib.Omega.{arith}
-use lib.ListN.{length, take, drop, length-set}
+use lib.ListN.{length, drop, length-set}
 use borrow.Author.Needs.{needs}
-use Rattle.list_text.specs.Wrote.{Wrote}
-use Rattle.list_text.proofs.Placing.{wrote-nothing, wrote-byte, wrote-then}
 use Rattle.try_hex.specs.declared.Said.the-variants.{Value}
-use Rattle.try_hex.specs.Digits.{firstOf, bytesOf}
-use Rattle.try_hex.proofs.Saying.{Reading, reads-on, says-one-more, says-no-more, first-inside}
+use Rattle.try_hex.specs.Digits.{firstOf}
+use Rattle.try_hex.proofs.Saying.{ReadTo, read-nothing, reads-on, reads-no-more, reads-full, first-inside}
 use Rattle.try_hex.proofs.read.Statement.{statement}
 use Rattle.try_hex.proofs.read.Tie as tie
 
 abbrev Inv-loop : tie.InvT-loop
-Inv-loop text bytes₀ k₀ at₀ bytes k at = (k ≤ length bytes) × (length bytes ≡ length bytes₀) × Wrote (take k (bytesOf text)) 0 bytes₀ bytes k × Reading text k at
+Inv-loop text bytes₀ k₀ at₀ bytes k at = ReadTo text bytes₀ bytes k at
 
 abbrev μ-loop : tie.MeasureT-loop
 μ-loop text bytes₀ k₀ at₀ bytes k at = length bytes - k
 
--- what the two bytes at the place say
-abbrev text-of : tie.After-known-told Inv-loop μ-loop → List ℕ
-text-of c = c .before .before .before .before .before .before .before .before .args .text .now
+-- the places, each found by its type
+abbrev begun : tie.At-loop Inv-loop μ-loop → tie.Start Inv-loop μ-loop
+begun c = search
 
-said : (c : tie.After-known-told Inv-loop μ-loop) → firstOf (drop (c .before .before .before .before .before .loop .at) (text-of c)) ≡ Value (c .before .b .given .0 .0)
-said c = sym (c .before .before .before .byte .ensures) ∙ c .before .b .given .1
+abbrev turn : tie.After-byte Inv-loop μ-loop → tie.At-loop Inv-loop μ-loop
+turn c = search
+
+abbrev called : tie.After-b Inv-loop μ-loop → tie.After-byte Inv-loop μ-loop
+called c = search
+
+-- what the two bytes at the place say
+said : (c : tie.After-b Inv-loop μ-loop) → firstOf (drop (turn (called c) .loop .at) (begun (turn (called c)) .args .text .now)) ≡ Value (c .b .given .0 .0)
+said c = sym (called c .byte .ensures) ∙ c .b .given .1
 
 loop-holds : tie.Need-loop-holds Inv-loop μ-loop
-loop-holds c = (omega arith, refl, wrote-nothing 0 (c .before .before .args .bytes .now), record { left = refl })
+loop-holds c = read-nothing _ _
 
 byte-requires : tie.Need-byte-requires Inv-loop μ-loop
 byte-requires c κs = search needs
@@ -40,16 +44,12 @@ enum-told : tie.Need-enum-told Inv-loop μ-loop
 enum-told c = search needs
 
 same-length : tie.Need-same-length Inv-loop μ-loop
-same-length c = c .before .before .before .before .loop .inv .1
+same-length c = let here : tie.At-loop Inv-loop μ-loop = search in here .loop .inv .size
 
 returns : tie.Need-returns Inv-loop μ-loop
 returns c =
-    let called = c .before .before in
-    let loop = called .before .before .loop in
-    let start = called .before .before .before .before .before in
-    let none = sym (called .byte .ensures) ∙ c .enum-told .given .1 in
-    let all = says-no-more (start .args .text .now) (loop .k) (loop .at) (loop .inv .3) (length (start .args .bytes .now)) (omega arith) none in
-    rw all (loop .inv .2)
+    let asked : tie.After-byte Inv-loop μ-loop = search in
+    reads-no-more (turn asked .loop .inv) (sym (asked .byte .ensures) ∙ c .enum-told .given .1)
 
 slice-write-bytes : tie.Need-slice-write-bytes Inv-loop μ-loop
 slice-write-bytes c = search needs
@@ -59,31 +59,24 @@ add-k c = search needs
 
 add-at : tie.Need-add-at Inv-loop μ-loop
 add-at c =
-    let loop = c .before .before .before .before .before .loop in
-    omega (arith, first-inside (text-of c) (loop .at) (c .before .b .given .0 .0) (said c))
+    let found : tie.After-b Inv-loop μ-loop = search in
+    let here = turn (called found) in
+    omega (arith, first-inside (begun here .args .text .now) (here .loop .at) (found .b .given .0 .0) (said found))
 
 loop-less : tie.Need-loop-less Inv-loop μ-loop
 loop-less c = simp length-set (omega arith)
 
 loop-again : tie.Need-loop-again Inv-loop μ-loop
 loop-again c =
-    let loop = c .before .before .before .before .before .loop in
-    let room : loop .k < length (loop .bytes) = c .before .before .before .before .loop-test .taken in (
-      simp length-set (omega arith),
-      simp length-set (loop .inv .1),
-      rw (says-one-more (text-of c) (loop .k) (loop .at) (loop .inv .3) _ (said c))
-          (wrote-then (omega arith) (loop .inv .2) (wrote-byte (loop .k) _ (loop .bytes) room)),
-      reads-on (text-of c) (loop .k) (loop .at) (loop .inv .3) _ (said c),
-    )
+    let found : tie.After-b Inv-loop μ-loop = search in
+    let inside : tie.In-loop Inv-loop μ-loop = search in
+    reads-on (turn (called found) .loop .inv) (said found) (inside .loop-test .taken)
 
 same-length-2 : tie.Need-same-length-2 Inv-loop μ-loop
-same-length-2 c = c .before .loop .inv .1
+same-length-2 c = let here : tie.At-loop Inv-loop μ-loop = search in here .loop .inv .size
 
 returns-2 : tie.Need-returns-2 Inv-loop μ-loop
-returns-2 c =
-    let loop = c .before .loop in
-    let full : loop .k ≡ length (c .before .before .before .before .args .bytes .now) = omega arith in
-    rw (← full) (loop .inv .2)
+returns-2 c = search reads-full
 
 pub read-spec : {M : Type 1} → statement M
 read-spec =

@@ -1,13 +1,15 @@
 -- Each contract leaves one answer.
 -- Main results: a law NAME-unique for each public function NAME. Assume nothing.
 use mathlib.Core.Path.{_≡_}
-use Rattle.fraction.specs.Exact.{negℚ, inverse, value}
-use Rattle.fraction.specs.declared.Fraction.{Fraction}
-use Rattle.fraction_reduce.specs.Values.{Stands}
-use Rattle.fraction_reduce.proofs.Unique.{stands-unique}
+use Rattle.unique.specs.Twice.{Twice}
+use Rattle.fraction_reduce.proofs.Unique.{stands-determined}
+use Rattle.fraction_inverse.proofs.inverted.Kinds as inverted-kinds
+use Rattle.fraction_inverse.proofs.inverted.Reads as inverted
+use Rattle.fraction_inverse.proofs.negated.Kinds as negated-kinds
+use Rattle.fraction_inverse.proofs.negated.Reads as negated
 
-pub negated-unique : (a : Fraction) (f g : Fraction) → Stands f (negℚ (value a)) → Stands g (negℚ (value a)) → f ≡ g
-negated-unique a f g p q = stands-unique p q
+pub negated-unique : Twice negated-kinds.ps negated-kinds.r negated.Post λ κs a x y end end′. x ≡ y
+negated-unique κs a x y end end′ first second = stands-determined first second
 
-pub inverted-unique : (a : Fraction) (f g : Fraction) → Stands f (inverse (value a)) → Stands g (inverse (value a)) → f ≡ g
-inverted-unique a f g p q = stands-unique p q
+pub inverted-unique : Twice inverted-kinds.ps inverted-kinds.r inverted.Post λ κs a x y end end′. x ≡ y
+inverted-unique κs a x y end end′ first second = stands-determined first second

@@ -1,15 +1,10 @@
--- Each contract leaves one answer.
--- Main results: a law NAME-unique for each public function NAME. Assume nothing.
+-- The contract of `fraction_product::product` leaves one answer.
+-- Main result: `product-unique`. Assumes nothing.
 use mathlib.Core.Path.{_≡_}
-use Rattle.fraction.specs.Exact.{value}
-use Rattle.fraction.specs.Limits.{times, over}
-use Rattle.fraction.specs.declared.Fraction.{Fraction}
-use Rattle.fraction_reduce.specs.Values.{Answers}
-use Rattle.fraction_reduce.specs.declared.Made.{Made}
-use Rattle.fraction_reduce.proofs.Unique.{answers-unique}
+use Rattle.unique.specs.Twice.{Twice}
+use Rattle.fraction_reduce.proofs.Unique.{answers-determined}
+use Rattle.fraction_product.proofs.product.Kinds.{ps, r}
+use Rattle.fraction_product.proofs.product.Reads.{Post}
 
-pub product-unique : (a b : Fraction) (r s : Made) → Answers r (times (value a) (value b)) → Answers s (times (value a) (value b)) → r ≡ s
-product-unique a b r s p q = answers-unique p q
-
-pub quotient-unique : (a b : Fraction) (r s : Made) → Answers r (over (value a) (value b)) → Answers s (over (value a) (value b)) → r ≡ s
-quotient-unique a b r s p q = answers-unique p q
+pub product-unique : Twice ps r Post λ κs a x y end end′. x ≡ y
+product-unique κs a x y end end′ first second = answers-determined first second

@@ -1,15 +1,13 @@
-// The product and the quotient of two fractions.
+// The product of two fractions.
 use fraction::Fraction;
-use fraction_inverse::inverted;
 use fraction_inverse::negated;
 use fraction_reduce::Made;
 use fraction_reduce::bottoms;
 use fraction_reduce::reduce::reduced;
-ghost use mathlib.Core.Path.{_≡_};
-ghost use lib.IntN.{pos};
 ghost use Rattle.fraction.specs.Exact.{value};
-ghost use Rattle.fraction.specs.Limits.{times, over};
+ghost use Rattle.fraction.specs.Limits.{times};
 ghost use Rattle.fraction_reduce.specs.Values.{Good, Answers};
+ghost use Rattle.fraction_product.specs.Contract.{WholeFactor};
 
 // Any two factors.
 fn product_plain(a: Fraction, b: Fraction) -> Made
@@ -22,9 +20,7 @@ fn product_plain(a: Fraction, b: Fraction) -> Made
 
 // A whole number times a fraction: times 1 and times -1 need no gcd.
 fn product_whole(a: Fraction, b: Fraction) -> Made
-    requires { ⌜ Good a ⌝ }
-    requires { ⌜ Good b ⌝ }
-    requires { ⌜ a .den ≡ pos 1 ⌝ }
+    requires { ⌜ WholeFactor a b ⌝ }
     ensures { λ r. ⌜ Answers r (times (value a) (value b)) ⌝ }
 {
     if a.num == 1 {
@@ -55,13 +51,4 @@ pub fn product(a: Fraction, b: Fraction) -> Made
         return product_whole(b, a);
     }
     product_plain(a, b)
-}
-
-// a over b, with b's sign; 0 where b is 0, as the rule has it.
-pub fn quotient(a: Fraction, b: Fraction) -> Made
-    requires { ⌜ Good a ⌝ }
-    requires { ⌜ Good b ⌝ }
-    ensures { λ r. ⌜ Answers r (over (value a) (value b)) ⌝ }
-{
-    product(a, inverted(b))
 }

@@ -8,11 +8,8 @@ use whole_signed::times;
 use whole_signed::wide;
 use whole_size::size;
 use whole_size::size_wide;
-ghost use mathlib.Core.Path.{_≡_};
-ghost use Prim.Native.Nat.{_<_, _≤_, _*_};
-ghost use lib.IntN.{natAbs};
 ghost use Rattle.fraction.specs.Exact.{value};
-ghost use Rattle.fraction.specs.Limits.{limit};
+ghost use Rattle.fraction_reduce.specs.Contract.{Raw, Bottoms};
 ghost use Rattle.fraction_reduce.specs.Values.{Good, Stands};
 
 // What an operation answers: the fraction made, or the number of its refusal.
@@ -25,17 +22,14 @@ pub enum Made {
 pub fn bottoms(a: Fraction, b: Fraction) -> u64
     requires { ⌜ Good a ⌝ }
     requires { ⌜ Good b ⌝ }
-    ensures { λ r. ⌜ r ≡ natAbs (a .den) * natAbs (b .den) ⌝ }
-    ensures { λ r. ⌜ 0 < r ⌝ }
+    ensures { λ r. ⌜ Bottoms a b r ⌝ }
 {
     size_wide(times(a.den, b.den))
 }
 
 // A fraction as a record has it, in lowest terms: never refused, since neither number gets larger.
 pub fn lowered(f: Fraction) -> Fraction
-    requires { ⌜ 1 ≤ natAbs (f .den) ⌝ }
-    requires { ⌜ natAbs (f .den) ≤ limit ⌝ }
-    requires { ⌜ natAbs (f .num) ≤ limit ⌝ }
+    requires { ⌜ Raw f ⌝ }
     ensures { λ r. ⌜ Stands r (value f) ⌝ }
 {
     let terms = lowest(size(f.num), size(f.den));

@@ -6,13 +6,11 @@ use whole_gcd::greatest;
 use whole_size::narrow;
 use whole_size::put_back;
 use whole_size::size_wide;
-ghost use mathlib.Core.Path.{_≡_};
-ghost use Prim.Native.Nat.{_/_, _<_, _≤_, _^_};
-ghost use lib.IntN.{pos, natAbs};
-ghost use Rattle.whole.specs.Gcd.{gcd};
-ghost use Rattle.whole.specs.Signed.{signed};
+ghost use Prim.Native.Nat.{_<_, _^_};
+ghost use lib.IntN.{natAbs};
 ghost use Rattle.fraction.specs.Exact.{frac};
 ghost use Rattle.fraction.specs.Limits.{tested};
+ghost use Rattle.fraction_reduce.specs.Contract.{Reducible, Sizes, Lowest, Signed};
 ghost use Rattle.fraction_reduce.specs.Values.{Answers};
 
 // 01, The run: the largest numerator and denominator.
@@ -27,7 +25,7 @@ pub struct Terms {
 // Two sizes divided by their greatest common divisor.
 pub(crate) fn lowest(top: u64, bottom: u64) -> Terms
     requires { ⌜ 0 < bottom ⌝ }
-    ensures { λ r. ⌜ (r .top ≡ top / gcd top bottom) × (r .bottom ≡ bottom / gcd top bottom) ⌝ }
+    ensures { λ r. ⌜ Lowest top bottom r ⌝ }
 {
     let common = greatest(top, bottom);
     Terms {
@@ -38,9 +36,8 @@ pub(crate) fn lowest(top: u64, bottom: u64) -> Terms
 
 // The sign is put back last: all else goes by sizes.
 pub fn made(like: i64, top: u64, bottom: u64) -> Fraction
-    requires { ⌜ top ≤ 2147483647 ⌝ }
-    requires { ⌜ bottom ≤ 2147483647 ⌝ }
-    ensures { λ r. ⌜ (r .num ≡ signed like top) × (r .den ≡ pos bottom) ⌝ }
+    requires { ⌜ Sizes top bottom ⌝ }
+    ensures { λ r. ⌜ Signed like top bottom r ⌝ }
 {
     Fraction {
         num: put_back(like, top),
@@ -62,8 +59,7 @@ fn whole(n: i64) -> Made
 
 // n / d in lowest terms, where both numbers are within the limits.
 fn lowered(n: i64, d: u64) -> Made
-    requires { ⌜ natAbs n < 2 ^ 63 ⌝ }
-    requires { ⌜ 0 < d ⌝ }
+    requires { ⌜ Reducible n d ⌝ }
     ensures { λ r. ⌜ Answers r (tested (frac n d)) ⌝ }
 {
     let terms = lowest(size_wide(n), d);
@@ -80,8 +76,7 @@ fn lowered(n: i64, d: u64) -> Made
 
 // The same, with no gcd where none is needed.
 pub fn reduced(n: i64, d: u64) -> Made
-    requires { ⌜ natAbs n < 2 ^ 63 ⌝ }
-    requires { ⌜ 0 < d ⌝ }
+    requires { ⌜ Reducible n d ⌝ }
     ensures { λ r. ⌜ Answers r (tested (frac n d)) ⌝ }
 {
     if d == 1 { whole(n) } else { lowered(n, d) }

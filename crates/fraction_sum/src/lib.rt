@@ -5,19 +5,16 @@ use fraction_reduce::Made;
 use fraction_reduce::bottoms;
 use fraction_reduce::reduce::reduced;
 use whole_signed::times;
-ghost use mathlib.Core.Path.{_≡_};
-ghost use Prim.Native.Nat.{_<_, _^_};
-ghost use lib.IntN.{natAbs, _+ℤ_, _*ℤ_};
 ghost use Rattle.fraction.specs.Exact.{value};
 ghost use Rattle.fraction.specs.Limits.{plus, minus};
 ghost use Rattle.fraction_reduce.specs.Values.{Good, Answers};
+ghost use Rattle.fraction_sum.specs.Contract.{Cross};
 
 // The numerator of a sum, over the product of the denominators.
 fn cross(a: Fraction, b: Fraction) -> i64
     requires { ⌜ Good a ⌝ }
     requires { ⌜ Good b ⌝ }
-    ensures { λ r. ⌜ r ≡ a .num *ℤ b .den +ℤ b .num *ℤ a .den ⌝ }
-    ensures { λ r. ⌜ natAbs r < 2 ^ 63 ⌝ }
+    ensures { λ r. ⌜ Cross a b r ⌝ }
 {
     whole_signed::plus(times(a.num, b.den), times(b.num, a.den))
 }

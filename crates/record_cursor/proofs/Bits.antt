@@ -12,7 +12,8 @@ use lib.Pow.{mod-pow-add, mod-mod-pow, shr-shr, shl-exact, field as part, high, 
 use lib.ListN.{getD}
 use Rattle.rules_problem.specs.Bits.{bitAt, field}
 use Rattle.record_cursor.specs.declared.Piece.{Piece}
-use Rattle.record_cursor.specs.Taken.{numberAt, Cut}
+use Rattle.record_cursor.specs.Contract.{PieceCut}
+use Rattle.record_cursor.specs.Taken.{numberAt}
 
 -- A field of `width` bits is below 2 ^ width.
 pub field-below : (bytes : List ℕ) (width p : ℕ) → field bytes p width < 2 ^ width
@@ -86,7 +87,7 @@ field-window bytes small p width k h =
     rw whole at (field-number bytes (p / 8) small 3 width (p % 8) k h)
 
 -- A field that is cut from the number of eight bytes, by the bit of the byte string that it begins at.
-pub cut-field : (bytes : List ℕ) (first : ℕ) → ((i : ℕ) → getD bytes i 0 < 256) → {bits at width : ℕ} {piece : Piece} (p : ℕ) → bits ≡ numberAt bytes first 8 → Cut bits at width piece → 8 * first + at ≡ p → at + width ≤ 64 → piece .value ≡ field bytes p width
+pub cut-field : (bytes : List ℕ) (first : ℕ) → ((i : ℕ) → getD bytes i 0 < 256) → {bits at width : ℕ} {piece : Piece} (p : ℕ) → bits ≡ numberAt bytes first 8 → PieceCut bits at width piece → 8 * first + at ≡ p → at + width ≤ 64 → piece .value ≡ field bytes p width
 cut-field bytes first small {bits} {at} {width} p eight cut e within =
     cut .value ∙ ap (λ x. x / 2 ^ (64 - (at + width)) % 2 ^ width) eight
     ∙ sym (field-number bytes first small 8 width at (64 - (at + width)) (omega arith))

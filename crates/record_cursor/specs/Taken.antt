@@ -1,16 +1,13 @@
 -- What the cursor takes at a bit position.
--- Main definitions: `takenAt`, `Cut`. Assumes nothing.
-use mathlib.Core.Path.{_≡_}
+-- Main definitions: `takenAt`, `numberAt`. Assume nothing.
 use mathlib.Core.Bool.{cond}
 use mathlib.Core.List.{List}
-use Prim.Native.Nat.{ℕ, zero, suc, _+_, _-_, _*_, _/_, _%_, _^_, _<_}
+use Prim.Native.Nat.{ℕ, zero, suc, _+_, _*_}
 use lib.ListN.{length, getD}
 use lib.Dec.{leb}
 use Rattle.rules_problem.specs.Bits.{field}
-use Rattle.record_cursor.specs.declared.Cursor.{Cursor}
 use Rattle.record_cursor.specs.declared.Field.{Field}
 use Rattle.record_cursor.specs.declared.Field.the-variants.{Got, Ended}
-use Rattle.record_cursor.specs.declared.Piece.{Piece}
 
 -- 01, The problem record: "The reader works as a bit cursor that gives a field and the cursor after it": the field, if its bits
 -- are there, and the position after it
@@ -21,15 +18,3 @@ takenAt bytes at width = cond (leb (at + width) (8 * length bytes)) (Got (field 
 unfoldable pub numberAt : List ℕ → (first count : ℕ) → ℕ
 numberAt bytes first zero = 0
 numberAt bytes first (suc count) = numberAt bytes first count * 256 + getD bytes (first + count) 0
-
--- a field that is there, and the cursor after it
-pub record Next (bytes : List ℕ) (at width : ℕ) (piece : Piece) : Type 0 where
-  pub value : piece .value ≡ field bytes at width
-  pub small : piece .value < 2 ^ width
-  pub after : piece .next .at ≡ at + width
-
--- a field of 64 bits, counted from the highest of them, and the cursor after it
-pub record Cut (bits at width : ℕ) (piece : Piece) : Type 0 where
-  pub value : piece .value ≡ bits / 2 ^ (64 - (at + width)) % 2 ^ width
-  pub small : piece .value < 2 ^ width
-  pub after : piece .next .at ≡ at + width

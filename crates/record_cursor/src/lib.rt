@@ -1,8 +1,8 @@
-// The bit cursor: it gives a field of a byte string and the cursor after it, or says that the bits end before.
+// The bit cursor: it gives a field of a byte string, or of 64 bits that are one number, and the cursor after it.
 ghost use mathlib.Core.Path.{_≡_};
-ghost use Prim.Native.Nat.{_+_, _*_, _<_, _≤_, _^_};
-ghost use lib.ListN.{length, getD};
-ghost use Rattle.record_cursor.specs.Taken.{numberAt, takenAt, Next, Cut};
+ghost use Prim.Native.Nat.{_+_, _<_, _^_};
+ghost use Rattle.record_cursor.specs.Contract.{Takeable, Readable, Cuttable, ByteRead, PieceRead, PieceCut};
+ghost use Rattle.record_cursor.specs.Taken.{numberAt, takenAt};
 
 // A bit position; bit 0 is the most significant bit of the first byte.
 pub struct Cursor {
@@ -10,7 +10,7 @@ pub struct Cursor {
 }
 
 // What taking a field answers: its value and the cursor after it, or that fewer bits are left.
-pub enum Field {
+enum Field {
     Got { value: u32, next: Cursor },
     Ended,
 }
@@ -23,7 +23,7 @@ pub struct Piece {
 
 // The byte at an index; past the end, 0.
 fn byte_at(bytes: &[u8], index: usize) -> u32
-    ensures { λ r. ⌜ (r ≡ getD (now (bytes .entry)) index 0) × (r < 256) ⌝ }
+    ensures { λ r. ⌜ ByteRead (now (bytes .entry)) index r ⌝ }
 {
     if index < bytes.len() {
         bytes[index] as u32
@@ -45,8 +45,8 @@ fn window(bytes: &[u8], first: usize) -> u32
 
 impl Cursor {
     // The field of `width` bits from the cursor. A field lies in three bytes at most, so they are taken together.
-    pub fn take(self, bytes: &[u8], width: u32) -> Field
-        requires { ⌜ (width ≤ 16) × (self .at + width < 2 ^ 64) ⌝ }
+    fn take(self, bytes: &[u8], width: u32) -> Field
+        requires { ⌜ Takeable (self .at) width ⌝ }
         ensures { λ r. ⌜ r ≡ takenAt (now (bytes .entry)) (self .at) width ⌝ }
     {
         let at = self.at;
@@ -64,8 +64,8 @@ impl Cursor {
 
     // A field whose bits are there. The cursor after it is the same either way, so that the compiler knows where it stands.
     pub fn read(self, bytes: &[u8], width: u32) -> Piece
-        requires { ⌜ (width ≤ 16) × (self .at + width < 2 ^ 64) × (self .at + width ≤ 8 * length (now bytes)) ⌝ }
-        ensures { λ r. ⌜ Next (now (bytes .entry)) (self .at) width r ⌝ }
+        requires { ⌜ Readable (now bytes) (self .at) width ⌝ }
+        ensures { λ r. ⌜ PieceRead (now (bytes .entry)) (self .at) width r ⌝ }
     {
         let past = self.at + width as usize;
         match self.take(bytes, width) {
@@ -82,8 +82,8 @@ impl Cursor {
 
     // A field of 64 bits that are at hand as one number: the cursor counts from the highest of them.
     pub fn cut(self, bits: u64, width: u32) -> Piece
-        requires { ⌜ (1 ≤ width) × (width ≤ 16) × (self .at + width ≤ 64) ⌝ }
-        ensures { λ r. ⌜ Cut bits (self .at) width r ⌝ }
+        requires { ⌜ Cuttable (self .at) width ⌝ }
+        ensures { λ r. ⌜ PieceCut bits (self .at) width r ⌝ }
     {
         let stop = self.at + width as usize;
         let value = (bits >> ((64 - stop) as u32)) % (1 << width);

@@ -1,16 +1,22 @@
 -- Each contract leaves one answer.
--- Main results: `first-unique`, and a law NAME-unique for each public function NAME. Assume nothing.
+-- Main results: a law NAME-unique for each public function NAME. Assume nothing.
 use mathlib.Core.Path.{_≡_, sym, _∙_}
 use mathlib.Core.Bool.{Bool}
-use mathlib.Core.List.{List}
-use Prim.Native.Nat.{ℕ, _+_, _<_}
+use Prim.Native.Nat.{ℕ, _<_}
 use native.Mathlib.Decide.{decLt}
 use native.Mathlib.Omega.{arith}
-use Rattle.record_faults.specs.Walks.{soundTerm, sidesBelow, soundPair, First}
+use Rattle.unique.specs.Twice.{Twice}
+use Rattle.record_faults.specs.Contract.{First}
+use Rattle.record_faults.proofs.both_below.Kinds as both-below-kinds
+use Rattle.record_faults.proofs.both_below.Reads as both-below
+use Rattle.record_faults.proofs.first_beyond.Kinds as first-beyond-kinds
+use Rattle.record_faults.proofs.first_beyond.Reads as first-beyond
+use Rattle.record_faults.proofs.first_faulty.Kinds as first-faulty-kinds
+use Rattle.record_faults.proofs.first_faulty.Reads as first-faulty
 
 -- The first index that is not sound is one.
-pub first-unique : (from end : ℕ) (sound : ℕ → Bool) (r s : ℕ) → First from end sound r → First from end sound s → r ≡ s
-first-unique from end sound r s p q = by (decLt r s) (decLt s r)
+first-determined : {from end : ℕ} {sound : ℕ → Bool} {r s : ℕ} → First from end sound r → First from end sound s → r ≡ s
+first-determined {from} {end} {sound} {r} {s} p q = by (decLt r s) (decLt s r)
   where
     -- an index before the one that was found is sound
     not-before : {r s : ℕ} → First from end sound r → First from end sound s → r < s → ⊥
@@ -24,11 +30,11 @@ first-unique from end sound r s p q = by (decLt r s) (decLt s r)
     by (no here) (yes before) = absurd (not-before q p before)
     by (no here) (no there) = omega arith
 
-pub first-faulty-unique : (bytes : List ℕ) (n r s : ℕ) → First 0 n (soundTerm bytes) r → First 0 n (soundTerm bytes) s → r ≡ s
-first-faulty-unique bytes n = first-unique 0 n (soundTerm bytes)
+pub first-faulty-unique : Twice first-faulty-kinds.ps first-faulty-kinds.r first-faulty.Post λ κs a x y end end′. x ≡ y
+first-faulty-unique κs a x y end end′ first second = first-determined first second
 
-pub first-beyond-unique : (bytes : List ℕ) (n m r s : ℕ) → First 1 (m + 1) (soundPair bytes n) r → First 1 (m + 1) (soundPair bytes n) s → r ≡ s
-first-beyond-unique bytes n m = first-unique 1 (m + 1) (soundPair bytes n)
+pub first-beyond-unique : Twice first-beyond-kinds.ps first-beyond-kinds.r first-beyond.Post λ κs a x y end end′. x ≡ y
+first-beyond-unique κs a x y end end′ first second = first-determined first second
 
-pub both-below-unique : (bytes : List ℕ) (n at : ℕ) (r s : Bool) → r ≡ sidesBelow bytes n at → s ≡ sidesBelow bytes n at → r ≡ s
-both-below-unique bytes n at r s p q = p ∙ sym q
+pub both-below-unique : Twice both-below-kinds.ps both-below-kinds.r both-below.Post λ κs a x y end end′. x ≡ y
+both-below-unique κs a x y end end′ first second = first ∙ sym second

@@ -1,14 +1,16 @@
-// The walks over the term records and over the pairs, each up to the first that is faulty.
+// The first faulty term record, and the first pair with a side that is no term.
 use record_cursor::Cursor;
 use record_term::TermRead;
 use record_term::read_term;
 ghost use mathlib.Core.Path.{_≡_};
-ghost use Prim.Native.Nat.{_+_, _*_, _≤_, _<_};
-ghost use lib.ListN.{length};
-ghost use Rattle.record_faults.specs.Walks.{First, soundTerm, sidesBelow, soundPair};
+ghost use Prim.Native.Nat.{_+_};
+ghost use Rattle.record_term.specs.Contract.{RecordOf};
+ghost use Rattle.record_faults.specs.Contract.{RecordsThere, SidesThere, PairsThere, First};
+ghost use Rattle.record_faults.specs.Faults.{soundTerm, sidesBelow, soundPair};
 
+// Whether a term record holds a term.
 fn is_sound(bytes: &[u8], t: usize) -> bool
-    requires { ⌜ (t < 64) × (12 + 8 * t ≤ length (now bytes)) ⌝ }
+    requires { ⌜ RecordOf (now bytes) t ⌝ }
     ensures { λ r. ⌜ r ≡ soundTerm (now (bytes .entry)) t ⌝ }
 {
     match read_term(bytes, t) {
@@ -19,7 +21,7 @@ fn is_sound(bytes: &[u8], t: usize) -> bool
 
 // The lowest faulty term, or `n`.
 pub fn first_faulty(bytes: &[u8], n: usize) -> usize
-    requires { ⌜ (n ≤ 64) × (4 + 8 * n ≤ length (now bytes)) ⌝ }
+    requires { ⌜ RecordsThere (now bytes) n ⌝ }
     ensures { λ r. ⌜ First 0 n (soundTerm (now (bytes .entry))) r ⌝ }
 {
     let mut t: usize = 0;
@@ -34,7 +36,7 @@ pub fn first_faulty(bytes: &[u8], n: usize) -> usize
 
 // Whether the two sides from bit `at` on are terms.
 pub fn both_below(bytes: &[u8], n: usize, at: usize) -> bool
-    requires { ⌜ (at ≤ 65536) × (at + 16 ≤ 8 * length (now bytes)) ⌝ }
+    requires { ⌜ SidesThere (now bytes) at ⌝ }
     ensures { λ r. ⌜ r ≡ sidesBelow (now (bytes .entry)) n at ⌝ }
 {
     let start = Cursor { at: at };
@@ -49,7 +51,7 @@ pub fn both_below(bytes: &[u8], n: usize, at: usize) -> bool
 
 // The first pair with a side that is no term, from 1, or `m + 1`.
 pub fn first_beyond(bytes: &[u8], n: usize, m: usize) -> usize
-    requires { ⌜ (n ≤ 64) × (m ≤ 64) × (4 + 8 * n + 2 * m ≤ length (now bytes)) ⌝ }
+    requires { ⌜ PairsThere (now bytes) n m ⌝ }
     ensures { λ r. ⌜ First 1 (m + 1) (soundPair (now (bytes .entry)) n) r ⌝ }
 {
     let mut k: usize = 1;

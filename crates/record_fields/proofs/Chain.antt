@@ -7,13 +7,14 @@ use native.Mathlib.Omega.{arith}
 use lib.ListN.{getD}
 use Rattle.rules_problem.specs.Record.{fieldsAt}
 use Rattle.record_cursor.specs.declared.Piece.{Piece}
-use Rattle.record_cursor.specs.Taken.{numberAt, Cut}
+use Rattle.record_cursor.specs.Contract.{PieceCut}
+use Rattle.record_cursor.specs.Taken.{numberAt}
 use Rattle.record_cursor.proofs.Bits.{cut-field}
-use Rattle.record_fields.specs.Told.{told, FieldsRead}
+use Rattle.record_fields.specs.Contract.{fieldsOf, FieldsRead}
 
 -- Eight pieces in a chain are the fields of the record.
-pub fields-cut : (bytes : List ℕ) (first : ℕ) → ((i : ℕ) → getD bytes i 0 < 256) → {bits : ℕ} {kind symbol input1 input2 input3 mantissa shift padding : Piece} → bits ≡ numberAt bytes first 8 → Cut bits 0 4 kind → Cut bits (kind .next .at) 8 symbol → Cut bits (symbol .next .at) 8 input1 → Cut bits (input1 .next .at) 8 input2 → Cut bits (input2 .next .at) 8 input3 → Cut bits (input3 .next .at) 16 mantissa → Cut bits (mantissa .next .at) 4 shift → Cut bits (shift .next .at) 8 padding → FieldsRead bytes first (record { kind = kind .value; symbol = symbol .value; input1 = input1 .value; input2 = input2 .value; input3 = input3 .value; mantissa = mantissa .value; shift = shift .value; padding = padding .value })
-unfolding told fieldsAt
+pub fields-cut : (bytes : List ℕ) (first : ℕ) → ((i : ℕ) → getD bytes i 0 < 256) → {bits : ℕ} {kind symbol input1 input2 input3 mantissa shift padding : Piece} → bits ≡ numberAt bytes first 8 → PieceCut bits 0 4 kind → PieceCut bits (kind .next .at) 8 symbol → PieceCut bits (symbol .next .at) 8 input1 → PieceCut bits (input1 .next .at) 8 input2 → PieceCut bits (input2 .next .at) 8 input3 → PieceCut bits (input3 .next .at) 16 mantissa → PieceCut bits (mantissa .next .at) 4 shift → PieceCut bits (shift .next .at) 8 padding → FieldsRead bytes first (record { kind = kind .value; symbol = symbol .value; input1 = input1 .value; input2 = input2 .value; input3 = input3 .value; mantissa = mantissa .value; shift = shift .value; padding = padding .value })
+unfolding fieldsOf fieldsAt
 fields-cut bytes first small eight k s a b c m e z =
     record {
       same =

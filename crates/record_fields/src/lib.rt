@@ -1,10 +1,8 @@
 // The fields of a term record, cut from its eight bytes by the cursor.
 use record_cursor::Cursor;
 ghost use mathlib.Core.Path.{_≡_};
-ghost use Prim.Native.Nat.{_+_, _≤_};
-ghost use lib.ListN.{length};
 ghost use Rattle.record_cursor.specs.Taken.{numberAt};
-ghost use Rattle.record_fields.specs.Told.{FieldsRead};
+ghost use Rattle.record_fields.specs.Contract.{RecordThere, FieldsRead};
 
 // The fields as the record has them; a shift has 4 bits.
 pub struct Fields {
@@ -20,7 +18,7 @@ pub struct Fields {
 
 // The eight bytes from `first` on as one number, the first the highest.
 fn eight_bytes(bytes: &[u8], first: usize) -> u64
-    requires { ⌜ (first ≤ 512) × (first + 8 ≤ length (now bytes)) ⌝ }
+    requires { ⌜ RecordThere (now bytes) first ⌝ }
     ensures { λ r. ⌜ r ≡ numberAt (now (bytes .entry)) first 8 ⌝ }
 {
     let mut number: u64 = 0;
@@ -34,7 +32,7 @@ fn eight_bytes(bytes: &[u8], first: usize) -> u64
 
 // The record from byte `first` on: its eight bytes are read once, and the cursor cuts the fields from them.
 pub fn read_fields(bytes: &[u8], first: usize) -> Fields
-    requires { ⌜ (first ≤ 512) × (first + 8 ≤ length (now bytes)) ⌝ }
+    requires { ⌜ RecordThere (now bytes) first ⌝ }
     ensures { λ r. ⌜ FieldsRead (now (bytes .entry)) first r ⌝ }
 {
     let bits = eight_bytes(bytes, first);

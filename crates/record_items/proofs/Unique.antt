@@ -1,20 +1,23 @@
 -- Each contract leaves one answer.
 -- Main results: `term-at-unique`, `pair-at-unique`. Assume nothing.
-use mathlib.Core.Path.{_≡_}
-use mathlib.Core.List.{List}
-use Prim.Native.Nat.{ℕ}
-use Rattle.fraction.specs.Made.{made}
+use mathlib.Core.Path.{_≡_, sym, _∙_}
+use Rattle.unique.specs.Twice.{Twice}
+use Rattle.answer.specs.Refusals.{Refusal}
+use Rattle.fraction.specs.Made.{Made, made}
 use Rattle.rules_problem.specs.declared.Term.{Term}
-use Rattle.rules_problem.specs.Problem.{termAt}
-use Rattle.rules_problem.specs.Pairs.{pairThere}
-use Rattle.record_items.specs.declared.Sides.{Sides}
+use Rattle.rules_problem.specs.Problem.{Pair}
 use Rattle.record_items.specs.Held.{pairOf}
+use Rattle.record_items.proofs.pair_at.Kinds as pair-at-kinds
+use Rattle.record_items.proofs.pair_at.Reads as pair-at
+use Rattle.record_items.proofs.term_at.Kinds as term-at-kinds
+use Rattle.record_items.proofs.term_at.Reads as term-at
 
-pub term-at-unique : (bytes : List ℕ) (t : ℕ) (r s : Term) → made r ≡ termAt bytes t → made s ≡ termAt bytes t → r ≡ s
-term-at-unique bytes t r s p q = cc
+pub term-at-unique : Twice term-at-kinds.ps term-at-kinds.r term-at.Post λ κs a x y end end′. x ≡ y
+term-at-unique κs a x y end end′ first second = let same : _≡_ {A = Made Refusal Term} (made x) (made y) = first ∙ sym second in cc
 
-pub pair-at-unique : (bytes : List ℕ) (n k : ℕ) (r s : Sides) → made (pairOf r) ≡ pairThere bytes n k → made (pairOf s) ≡ pairThere bytes n k → r ≡ s
+pub pair-at-unique : Twice pair-at-kinds.ps pair-at-kinds.r pair-at.Post λ κs a x y end end′. x ≡ y
 unfolding pairOf
-pair-at-unique bytes n k r s p q =
-    let same : pairOf r ≡ pairOf s = cc in
+pair-at-unique κs a x y end end′ first second =
+    let both : _≡_ {A = Made Refusal Pair} (made (pairOf x)) (made (pairOf y)) = first ∙ sym second in
+    let same : pairOf x ≡ pairOf y = cc in
     λ i. record { left = same i .left; right = same i .right }

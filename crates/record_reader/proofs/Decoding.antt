@@ -1,13 +1,13 @@
--- What a byte string is decoded to, test by test.
--- Main results: `read-short`, `read-count`, `read-length`, `read-term`, `read-goal`, `read-pair`, `read-sound`. Assume nothing.
-use mathlib.Core.Path.{_≡_, refl, sym}
-use mathlib.Core.Bool.{true, false, _&&_}
+-- What reading a byte string answers, test by test, each from what is known where the code comes to it.
+-- Main results: `answers-short`, `answers-no-term`, `answers-many-terms`, `answers-many-pairs`, `answers-length`, `answers-term`, `answers-goal`, `answers-pair`, `answers-sound`. Assume nothing.
+use mathlib.Core.Path.{_≡_, refl, sym, _∙_}
+use mathlib.Core.Bool.{Bool, true, false, not, _&&_}
 use mathlib.Core.List.{List}
 use mathlib.Core.Option.{Option, some, none}
 use Prim.Native.Nat.{ℕ, _+_, _-_, _*_, _≤_, _<_}
 use native.Mathlib.Nat.{zero-add}
 use native.Mathlib.Omega.{arith}
-use borrow.Author.Tests.{lt-leb, le-leb, eq-eqb, ne-eqb}
+use borrow.Author.Tests.{lt-leb, le-leb, eq-eqb, ne-eqb, not-true, not-false}
 use lib.Dec.{leb}
 use lib.ListN.{length}
 use Rattle.answer.specs.Refusals.{Refusal, SHORT, COUNT, LENGTH, TERM, PAIR}
@@ -19,12 +19,15 @@ use Rattle.rules_problem.specs.Bits.{field}
 use Rattle.rules_problem.specs.Record.{fieldsAt, kindOf}
 use Rattle.rules_problem.specs.Problem.{Pair, Problem, refuse, termAt, pairAt, need, decoded}
 use Rattle.record_reader.specs.declared.Header.{Header}
+use Rattle.record_reader.specs.declared.Read.{Read}
 use Rattle.record_reader.specs.declared.Read.the-variants.{Sound, Refused}
 use Rattle.record_term.specs.declared.TermRead.{TermRead}
 use Rattle.record_term.specs.declared.TermRead.the-variants as term
-use Rattle.record_term.specs.Terms.{judged, termRead}
-use Rattle.record_faults.specs.Walks.{isSound, soundTerm, sidesBelow, soundPair, First}
-use Rattle.record_reader.specs.Reads.{headerOf, readAs, readOf, HeaderRead, Framed}
+use Rattle.record_term.specs.Terms.{soundIf, termRead}
+use Rattle.record_faults.specs.Contract.{First}
+use Rattle.record_faults.specs.Faults.{isSound, soundTerm, sidesBelow, soundPair}
+use Rattle.record_reader.specs.Contract.{HeaderRead, Framed}
+use Rattle.record_reader.specs.Reads.{headerOf, readAs, readOf}
 
 -- what follows tests 2 to 4
 unfoldable body : List ℕ → (n m : ℕ) → Made Refusal Problem
@@ -34,29 +37,39 @@ body bytes n m =
     tab m 1 (λ k. pairAt bytes n k (32 + 64 * n + 16 * (k - 1))) >>= λ pairs.
     made (record { terms = terms; goal = goal; pairs = pairs })
 
-module _ (bytes : List ℕ) where
-  -- 2 SHORT
-  pub read-short : length bytes < 4 → readOf bytes ≡ Refused 2 0
-  unfolding readOf readAs decoded need refuse SHORT
-  read-short h = rw (lt-leb 4 _ h)
+-- 2 SHORT
+pub answers-short : (bytes : List ℕ) {r : Read} → length bytes < 4 → r ≡ Refused 2 0 → r ≡ readOf bytes
+unfolding readOf readAs decoded need refuse SHORT
+answers-short bytes h e = e ∙ sym (rw (lt-leb 4 _ h))
 
-  module _ (h : Header) (header : HeaderRead bytes h) (long : 4 ≤ length bytes) where
-    -- 3 COUNT
-    pub read-count : (leb 1 (h .n) && leb (h .n) 64 && leb (h .m) 64) ≡ false → readOf bytes ≡ Refused 3 0
-    unfolding readOf readAs decoded need refuse COUNT
-    read-count outside = rw (← header .terms, ← header .pairs, le-leb 4 _ long, outside)
+module _ {bytes : List ℕ} {h : Header} (header : HeaderRead bytes h) (long : 4 ≤ length bytes) where
+  -- 3 COUNT
+  outside-count : {r : Read} → (leb 1 (h .n) && leb (h .n) 64 && leb (h .m) 64) ≡ false → r ≡ Refused 3 0 → r ≡ readOf bytes
+  unfolding readOf readAs decoded need refuse COUNT
+  outside-count outside e = e ∙ sym (rw (← header .terms, ← header .pairs, le-leb 4 _ long, outside))
 
-    module _ (some-term : 1 ≤ h .n) (few-terms : h .n ≤ 64) (few-pairs : h .m ≤ 64) where
-      -- 4 LENGTH
-      pub read-length : (length bytes ≡ 4 + 8 * h .n + 2 * h .m → ⊥) → readOf bytes ≡ Refused 4 0
-      unfolding readOf readAs decoded need refuse LENGTH
-      read-length differs =
-          rw (← header .terms, ← header .pairs, le-leb 4 _ long, le-leb 1 _ some-term, le-leb _ 64 few-terms, le-leb _ 64 few-pairs, ne-eqb _ _ differs)
+  pub answers-no-term : {r : Read} → h .n < 1 → r ≡ Refused 3 0 → r ≡ readOf bytes
+  answers-no-term few = outside-count (rw (lt-leb 1 _ few))
 
-      framed-body : length bytes ≡ 4 + 8 * h .n + 2 * h .m → decoded bytes ≡ body bytes (h .n) (h .m)
-      unfolding decoded need body
-      framed-body whole =
-          rw (← header .terms, ← header .pairs, le-leb 4 _ long, le-leb 1 _ some-term, le-leb _ 64 few-terms, le-leb _ 64 few-pairs, eq-eqb _ _ whole)
+  module _ (some-term : 1 ≤ h .n) where
+    pub answers-many-terms : {r : Read} → 64 < h .n → r ≡ Refused 3 0 → r ≡ readOf bytes
+    answers-many-terms many = outside-count (rw (le-leb 1 _ some-term, lt-leb _ 64 many))
+
+    module _ (few-terms : h .n ≤ 64) where
+      pub answers-many-pairs : {r : Read} → 64 < h .m → r ≡ Refused 3 0 → r ≡ readOf bytes
+      answers-many-pairs many = outside-count (rw (le-leb 1 _ some-term, le-leb _ 64 few-terms, lt-leb _ 64 many))
+
+      module _ (few-pairs : h .m ≤ 64) where
+        -- 4 LENGTH
+        pub answers-length : {r : Read} → (length bytes ≡ 4 + 8 * h .n + 2 * h .m → ⊥) → r ≡ Refused 4 0 → r ≡ readOf bytes
+        unfolding readOf readAs decoded need refuse LENGTH
+        answers-length differs e =
+            e ∙ sym (rw (← header .terms, ← header .pairs, le-leb 4 _ long, le-leb 1 _ some-term, le-leb _ 64 few-terms, le-leb _ 64 few-pairs, ne-eqb _ _ differs))
+
+        framed-body : length bytes ≡ 4 + 8 * h .n + 2 * h .m → decoded bytes ≡ body bytes (h .n) (h .m)
+        unfolding decoded need body
+        framed-body whole =
+            rw (← header .terms, ← header .pairs, le-leb 4 _ long, le-leb 1 _ some-term, le-leb _ 64 few-terms, le-leb _ 64 few-pairs, eq-eqb _ _ whole)
 
 -- what the rule makes of a record, by what reading it answers
 unfoldable pub termAs : (t : ℕ) → TermRead → Made Refusal Term
@@ -64,10 +77,10 @@ termAs t (term.Sound found) = made found
 termAs t term.Faulty = refuse TERM t
 
 pub term-as : (bytes : List ℕ) (t : ℕ) → termAt bytes t ≡ termAs t (termRead bytes t)
-unfolding termRead judged termAt termAs
+unfolding termRead soundIf termAt termAs
 term-as bytes t = go (kindOf t (fieldsAt bytes (32 + 64 * t)))
   where
-    go : (o : Option Kind) → _≡_ {A = Made Refusal Term} (elim o [ none ↦ refuse TERM t | some kind ↦ made (record { kind = kind }) ]) (termAs t (judged o))
+    go : (o : Option Kind) → _≡_ {A = Made Refusal Term} (elim o [ none ↦ refuse TERM t | some kind ↦ made (record { kind = kind }) ]) (termAs t (soundIf o))
     go none = refl
     go (some kind) = refl
 
@@ -97,46 +110,49 @@ pair-stopped : (bytes : List ℕ) (n place p : ℕ) → sidesBelow bytes n p ≡
 unfolding sidesBelow pairAt
 pair-stopped bytes n place p e = rw e
 
-module _ (bytes : List ℕ) (h : Header) (framed : Framed bytes h) where
+module _ {bytes : List ℕ} {h : Header} (framed : Framed bytes h) {t : ℕ} (terms-first : First 0 (h .n) (soundTerm bytes) t) where
   decoded-body : decoded bytes ≡ body bytes (h .n) (h .m)
-  decoded-body =
-      framed-body bytes h (framed .header) (omega arith) (framed .some-term) (framed .few-terms) (framed .few-pairs) (framed .whole)
+  decoded-body = framed-body (framed .header) (omega arith) (framed .some-term) (framed .few-terms) (framed .few-pairs) (framed .whole)
 
   -- 5 TERM
-  pub read-term : (t : ℕ) → First 0 (h .n) (soundTerm bytes) t → t < h .n → readOf bytes ≡ Refused 5 t
+  pub answers-term : {r : Read} → t < h .n → r ≡ Refused 5 t → r ≡ readOf bytes
   unfolding readOf readAs body _>>=_ refuse TERM
-  read-term t first below =
+  answers-term below e =
       let stops : tab (h .n) 0 (termAt bytes) ≡ refuse TERM t =
-      tab-stopped (termAt bytes) (h .n) 0 t _ below (λ k before. term-made bytes (0 + k) (first .passed .before (0 + k) (omega arith) (omega arith))) (rw zero-add (term-stopped bytes t (first .there below))) in
-      rw (decoded-body, stops)
+      tab-stopped (termAt bytes) (h .n) 0 t _ below (λ k before. term-made bytes (0 + k) (terms-first .passed .before (0 + k) (omega arith) (omega arith))) (rw zero-add (term-stopped bytes t (terms-first .there below))) in
+      e ∙ sym (rw (decoded-body, stops))
 
-  module _ (t : ℕ) (terms-first : First 0 (h .n) (soundTerm bytes) t) (all-terms : h .n ≤ t) where
+  module _ (all-terms : h .n ≤ t) {both : Bool} (tested : both ≡ sidesBelow bytes (h .n) 16) where
     terms : (list : List Term) × (tab (h .n) 0 (termAt bytes) ≡ made list)
     terms = tab-made (termAt bytes) (h .n) 0 (λ k below. term-made bytes (0 + k) (terms-first .passed .before (0 + k) (omega arith) (omega arith)))
 
     -- 6 PAIR, the goal
-    pub read-goal : sidesBelow bytes (h .n) 16 ≡ false → readOf bytes ≡ Refused 6 0
+    pub answers-goal : {r : Read} → not both ≡ true → r ≡ Refused 6 0 → r ≡ readOf bytes
     unfolding readOf readAs body _>>=_ refuse PAIR
-    read-goal beyond = rw (decoded-body, terms .1, pair-stopped bytes (h .n) 0 16 beyond)
+    answers-goal beyond e = e ∙ sym (rw (decoded-body, terms .1, pair-stopped bytes (h .n) 0 16 (sym tested ∙ not-true _ beyond)))
 
-    module _ (goal : sidesBelow bytes (h .n) 16 ≡ true) where
+    module _ (below : not both ≡ false) {k : ℕ} (first : First 1 (h .m + 1) (soundPair bytes (h .n)) k) where
+      goal : sidesBelow bytes (h .n) 16 ≡ true
+      goal = sym tested ∙ not-false _ below
+
       pair : ℕ → Made Refusal Pair
       pair k = pairAt bytes (h .n) k (32 + 64 * h .n + 16 * (k - 1))
 
       -- 6 PAIR, a pair
-      pub read-pair : (k : ℕ) → First 1 (h .m + 1) (soundPair bytes (h .n)) k → k ≤ h .m → readOf bytes ≡ Refused 6 k
+      pub answers-pair : {r : Read} → k ≤ h .m → r ≡ Refused 6 k → r ≡ readOf bytes
       unfolding readOf readAs body _>>=_ refuse PAIR pair soundPair
-      read-pair k first within =
+      answers-pair within e =
           let index : 1 + (k - 1) ≡ k = omega (arith, first .passed .least) in
           let stops : tab (h .m) 1 pair ≡ refuse PAIR k =
           tab-stopped pair (h .m) 1 (k - 1) _ (omega (arith, first .passed .least)) (λ j before. (_, pair-made bytes (h .n) (1 + j) _ (first .passed .before (1 + j) (omega arith) (omega arith)))) (rw index (pair-stopped bytes (h .n) k _ (first .there (omega arith)))) in
-          rw (decoded-body, terms .1, pair-made bytes (h .n) 0 16 goal, stops)
+          e ∙ sym (rw (decoded-body, terms .1, pair-made bytes (h .n) 0 16 goal, stops))
 
       -- a sound problem
-      pub read-sound : (k : ℕ) → First 1 (h .m + 1) (soundPair bytes (h .n)) k → h .m < k → readOf bytes ≡ Sound h
+      pub answers-sound : h .m < k → Sound h ≡ readOf bytes
       unfolding readOf readAs body _>>=_ pair soundPair headerOf
-      read-sound k first beyond =
+      answers-sound beyond =
           let pairs : (list : List Pair) × (tab (h .m) 1 pair ≡ made list) =
           tab-made pair (h .m) 1 (λ j below. (_, pair-made bytes (h .n) (1 + j) _ (first .passed .before (1 + j) (omega arith) (omega arith)))) in
-          rw (decoded-body, terms .1, pair-made bytes (h .n) 0 16 goal, pairs .1)
-          (λ i. Sound (record { n = tab-length (termAt bytes) (h .n) 0 _ (terms .1) i; m = tab-length pair (h .m) 1 _ (pairs .1) i; left = sym (framed .header .left) i; right = sym (framed .header .right) i }))
+          sym
+          (rw (decoded-body, terms .1, pair-made bytes (h .n) 0 16 goal, pairs .1)
+          (λ i. Sound (record { n = tab-length (termAt bytes) (h .n) 0 _ (terms .1) i; m = tab-length pair (h .m) 1 _ (pairs .1) i; left = sym (framed .header .left) i; right = sym (framed .header .right) i })))

@@ -1,10 +1,9 @@
 -- The contract of `record_reader::read_problem` leaves one answer.
 -- Main result: `read-problem-unique`. Assumes nothing.
 use mathlib.Core.Path.{_≡_, sym, _∙_}
-use mathlib.Core.List.{List}
-use Prim.Native.Nat.{ℕ}
-use Rattle.record_reader.specs.declared.Read.{Read}
-use Rattle.record_reader.specs.Reads.{readOf}
+use Rattle.unique.specs.Twice.{Twice}
+use Rattle.record_reader.proofs.read_problem.Kinds.{ps, r}
+use Rattle.record_reader.proofs.read_problem.Reads.{Post}
 
-pub read-problem-unique : (bytes : List ℕ) (r s : Read) → r ≡ readOf bytes → s ≡ readOf bytes → r ≡ s
-read-problem-unique bytes r s p q = p ∙ sym q
+pub read-problem-unique : Twice ps r Post λ κs a x y end end′. x ≡ y
+read-problem-unique κs a x y end end′ first second = first ∙ sym second

@@ -1,12 +1,10 @@
 -- What reading a byte string answers: the header of the problem that it holds, or the refusal that it gets.
 -- Main definition: `readOf`. Assumes nothing.
-use mathlib.Core.Path.{_≡_}
 use mathlib.Core.List.{List}
-use Prim.Native.Nat.{ℕ, _+_, _*_, _≤_}
+use Prim.Native.Nat.{ℕ}
 use lib.ListN.{length}
 use Rattle.answer.specs.Refusals.{Refusal}
 use Rattle.fraction.specs.Made.{Made, made, stopped}
-use Rattle.rules_problem.specs.Bits.{field}
 use Rattle.rules_problem.specs.Problem.{Problem, decoded}
 use Rattle.record_reader.specs.declared.Header.{Header}
 use Rattle.record_reader.specs.declared.Read.{Read}
@@ -22,18 +20,3 @@ readAs (stopped why) = answered.Refused (why .number) (why .place)
 -- 01, What comes back: refusals 2 to 6 with their places; a sound problem is answered by its header
 unfoldable pub readOf : List ℕ → Read
 readOf bytes = readAs (decoded bytes)
-
--- the four bytes of the header
-pub record HeaderRead (bytes : List ℕ) (h : Header) : Type 0 where
-  pub terms : h .n ≡ field bytes 0 8
-  pub pairs : h .m ≡ field bytes 8 8
-  pub left : h .left ≡ field bytes 16 8
-  pub right : h .right ≡ field bytes 24 8
-
--- a byte string that passes tests 2 to 4
-pub record Framed (bytes : List ℕ) (h : Header) : Type 0 where
-  pub header : HeaderRead bytes h
-  pub some-term : 1 ≤ h .n
-  pub few-terms : h .n ≤ 64
-  pub few-pairs : h .m ≤ 64
-  pub whole : length bytes ≡ 4 + 8 * h .n + 2 * h .m

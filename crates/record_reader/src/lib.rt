@@ -9,7 +9,8 @@ use rules_problem::TERMS;
 ghost use mathlib.Core.Path.{_≡_};
 ghost use Prim.Native.Nat.{_≤_};
 ghost use lib.ListN.{length};
-ghost use Rattle.record_reader.specs.Reads.{HeaderRead, Framed, readOf};
+ghost use Rattle.record_reader.specs.Contract.{HeaderRead, Framed};
+ghost use Rattle.record_reader.specs.Reads.{readOf};
 
 // The counts of terms and assumptions, and the sides of the goal.
 pub struct Header {
@@ -26,6 +27,7 @@ pub enum Read {
     Refused { number: u8, place: usize },
 }
 
+// The four bytes of the header, read one after the other.
 fn read_header(bytes: &[u8]) -> Header
     requires { ⌜ 4 ≤ length (now bytes) ⌝ }
     ensures { λ r. ⌜ HeaderRead (now (bytes .entry)) r ⌝ }

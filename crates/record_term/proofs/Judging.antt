@@ -16,7 +16,7 @@ use Rattle.rules_problem.specs.declared.Term.{Term}
 use Rattle.rules_problem.specs.Record.{Fields, every, unless-faulty, kindOf}
 use Rattle.record_term.specs.declared.TermRead.{TermRead}
 use Rattle.record_term.specs.declared.TermRead.the-variants.{Sound, Faulty}
-use Rattle.record_term.specs.Terms.{zeros, below, judged, holdsKind, Faultless, Holds}
+use Rattle.record_term.specs.Terms.{zeros, below, soundIf, holdsKind, Faultless, HoldsTerm}
 
 -- The second test is made where the first one holds.
 pub and-came : {Taken Left : Type 0} (a b r : Bool) → (Taken → a ≡ true) → (Left → a ≡ false) → (Taken × (r ≡ b)) ⊎ (Left × (r ≡ a)) → r ≡ (a && b)
@@ -57,11 +57,11 @@ other-kinds own f n1 n2 n3 n4 n5 n6 n7 n8 = go (decLt (f .kind) 9)
     go (no h) = past-table own f h
 
 -- A record that is not faulty holds the term of its kind.
-pub holds-unless : (own : ℕ) (unused inputs : List ℕ) (kind : Kind) → Holds (judged (unless-faulty own unused inputs kind)) (record { kind = kind })
-unfolding Holds Faultless judged unless-faulty
+pub holds-unless : (own : ℕ) (unused inputs : List ℕ) (kind : Kind) → HoldsTerm (soundIf (unless-faulty own unused inputs kind)) (record { kind = kind })
+unfolding HoldsTerm Faultless soundIf unless-faulty
 holds-unless own unused inputs kind = go (every (λ x. eqb x 0) unused && every (λ i. ltb i own) inputs)
   where
-    go : (sound : Bool) → Holds (judged (cond sound (some kind) none)) (record { kind = kind })
+    go : (sound : Bool) → HoldsTerm (soundIf (cond sound (some kind) none)) (record { kind = kind })
     go true h = refl
     go false h = absurd (h refl)
 
@@ -85,9 +85,9 @@ pub sound-alone : (own : ℕ) (unused : List ℕ) (kind : Kind) {r : Bool} → r
 unfolding below every
 sound-alone own unused kind e = e ∙ sym (and-true (zeros unused)) ∙ sym (sound-is own unused [] kind)
 
--- What a record is told by whether it holds a term.
-pub sound-holds : (told : Option Kind) (term : Term) → holdsKind told ≡ true → Holds (judged told) term → Sound term ≡ judged told
-unfolding Holds Faultless judged holdsKind
+-- What reading a record answers, by whether it holds a term.
+pub sound-holds : (kind : Option Kind) (term : Term) → holdsKind kind ≡ true → HoldsTerm (soundIf kind) term → Sound term ≡ soundIf kind
+unfolding HoldsTerm Faultless soundIf holdsKind
 sound-holds none term e holds = absurd (true≢false (sym e))
 sound-holds (some kind) term e holds = sym (holds λ faulty. true≢false (ap isSound faulty))
   where
@@ -95,7 +95,7 @@ sound-holds (some kind) term e holds = sym (holds λ faulty. true≢false (ap is
     isSound (Sound t) = true
     isSound Faulty = false
 
-pub unsound-faulty : (told : Option Kind) → holdsKind told ≡ false → Faulty ≡ judged told
-unfolding judged holdsKind
+pub unsound-faulty : (kind : Option Kind) → holdsKind kind ≡ false → Faulty ≡ soundIf kind
+unfolding soundIf holdsKind
 unsound-faulty none e = refl
 unsound-faulty (some kind) e = absurd (true≢false e)

@@ -1,15 +1,16 @@
 -- The contracts of the term reader leave one answer.
 -- Main results: `read-term-unique`, `held-term-unique`. Assume nothing.
 use mathlib.Core.Path.{_≡_, sym, _∙_}
-use mathlib.Core.List.{List}
-use Prim.Native.Nat.{ℕ}
-use Rattle.rules_problem.specs.declared.Term.{Term}
+use Rattle.unique.specs.Twice.{Twice}
 use Rattle.record_term.specs.declared.TermRead.{TermRead}
 use Rattle.record_term.specs.declared.TermRead.the-variants.{Sound}
-use Rattle.record_term.specs.Terms.{termRead}
+use Rattle.record_term.proofs.held_term.Kinds as held-term-kinds
+use Rattle.record_term.proofs.held_term.Reads as held-term
+use Rattle.record_term.proofs.read_term.Kinds as read-term-kinds
+use Rattle.record_term.proofs.read_term.Reads as read-term
 
-pub read-term-unique : (bytes : List ℕ) (own : ℕ) (r s : TermRead) → r ≡ termRead bytes own → s ≡ termRead bytes own → r ≡ s
-read-term-unique bytes own r s p q = p ∙ sym q
+pub read-term-unique : Twice read-term-kinds.ps read-term-kinds.r read-term.Post λ κs a x y end end′. x ≡ y
+read-term-unique κs a x y end end′ first second = first ∙ sym second
 
-pub held-term-unique : (bytes : List ℕ) (own : ℕ) (r s : Term) → termRead bytes own ≡ Sound r → termRead bytes own ≡ Sound s → r ≡ s
-held-term-unique bytes own r s p q = cc
+pub held-term-unique : Twice held-term-kinds.ps held-term-kinds.r held-term.Post λ κs a x y end end′. x ≡ y
+held-term-unique κs a x y end end′ first second = let same : Sound x ≡ Sound y = sym first ∙ second in cc

@@ -1,5 +1,5 @@
 -- What reading a term record answers.
--- Main definitions: `termRead`, `Faultless`, `Holds`. Assumes nothing.
+-- Main definitions: `termRead`, `Faultless`, `HoldsTerm`. Assumes nothing.
 use mathlib.Core.Path.{_≡_}
 use mathlib.Core.Bool.{Bool, true, false}
 use mathlib.Core.List.{List}
@@ -18,9 +18,9 @@ zeros = every (λ x. eqb x 0)
 unfoldable pub below : (own : ℕ) → List ℕ → Bool
 below own = every (λ i. ltb i own)
 
-unfoldable pub judged : Option Kind → TermRead
-judged none = Faulty
-judged (some kind) = Sound (record { kind = kind })
+unfoldable pub soundIf : Option Kind → TermRead
+soundIf none = Faulty
+soundIf (some kind) = Sound (record { kind = kind })
 
 -- whether a record of these fields holds a term
 unfoldable pub holdsKind : Option Kind → Bool
@@ -30,12 +30,12 @@ holdsKind (some kind) = true
 -- 01: "A record is faulty with kind 0 or 9 to 15, with a nonzero unused field or padding, or with an input not below its own
 -- number"; term t's record is 64 bits after the header and t records
 unfoldable pub termRead : List ℕ → (own : ℕ) → TermRead
-termRead bytes own = judged (kindOf own (fieldsAt bytes (32 + 64 * own)))
+termRead bytes own = soundIf (kindOf own (fieldsAt bytes (32 + 64 * own)))
 
 -- a record that is not faulty
 unfoldable pub Faultless : TermRead → Type 0
 Faultless read = read ≡ Faulty → ⊥
 
 -- if it is not, it holds this term
-unfoldable pub Holds : TermRead → Term → Type 0
-Holds read term = Faultless read → read ≡ Sound term
+unfoldable pub HoldsTerm : TermRead → Term → Type 0
+HoldsTerm read term = Faultless read → read ≡ Sound term

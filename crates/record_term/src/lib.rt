@@ -6,13 +6,13 @@ use rules_problem::Kind;
 use rules_problem::Term;
 ghost use mathlib.Core.Path.{_≡_};
 ghost use mathlib.Core.List.{_∷_, []};
-ghost use Prim.Native.Nat.{ℕ, _+_, _*_, _≤_, _<_, _^_};
-ghost use lib.ListN.{length};
+ghost use Prim.Native.Nat.{ℕ, _<_, _^_};
 ghost use lib.IntN.{pos};
 ghost use Rattle.rules_problem.specs.Bits.{signed16};
 ghost use Rattle.rules_problem.specs.Record.{scaled, kindOf};
-ghost use Rattle.record_fields.specs.Told.{told};
-ghost use Rattle.record_term.specs.Terms.{zeros, below, judged, holdsKind, termRead, Faultless, Holds};
+ghost use Rattle.record_fields.specs.Contract.{fieldsOf};
+ghost use Rattle.record_term.specs.Contract.{RecordOf, SoundRecord};
+ghost use Rattle.record_term.specs.Terms.{zeros, below, soundIf, holdsKind, termRead, HoldsTerm};
 ghost use Rattle.record_term.specs.declared.TermRead.the-variants.{Sound};
 
 pub enum TermRead {
@@ -21,7 +21,7 @@ pub enum TermRead {
 }
 
 // The mantissa with its sign.
-fn signed(mantissa: u16) -> i32
+fn with_sign(mantissa: u16) -> i32
     ensures { λ r. ⌜ r ≡ signed16 mantissa ⌝ }
 {
     if mantissa < 32768 {
@@ -41,10 +41,10 @@ fn power(shift: u8) -> i32
 // Mantissa over 2^shift, as the record has it.
 fn fraction_of(f: Fields) -> Fraction
     requires { ⌜ f .shift < 16 ⌝ }
-    ensures { λ r. ⌜ r ≡ scaled (told f) ⌝ }
+    ensures { λ r. ⌜ r ≡ scaled (fieldsOf f) ⌝ }
 {
     Fraction {
-        num: signed(f.mantissa),
+        num: with_sign(f.mantissa),
         den: power(f.shift),
     }
 }
@@ -98,7 +98,7 @@ fn below3(own: usize, first: u8, second: u8, third: u8) -> bool
 
 // Whether a record is sound: its fields by the table of kinds.
 fn judge(own: usize, f: Fields) -> bool
-    ensures { λ r. ⌜ r ≡ holdsKind (kindOf own (told f)) ⌝ }
+    ensures { λ r. ⌜ r ≡ holdsKind (kindOf own (fieldsOf f)) ⌝ }
 {
     let kind = f.kind;
     match kind {
@@ -128,9 +128,9 @@ fn judge(own: usize, f: Fields) -> bool
 }
 
 // The kind that the fields of a record say, if it is not faulty.
-fn told_kind(f: Fields) -> Kind
+fn kind_of(f: Fields) -> Kind
     requires { ⌜ f .shift < 16 ⌝ }
-    ensures { λ r. ⌜ ((own : ℕ) → Holds (judged (kindOf own (told f))) (record { kind = r })) ⌝ }
+    ensures { λ r. ⌜ ((own : ℕ) → HoldsTerm (soundIf (kindOf own (fieldsOf f))) (record { kind = r })) ⌝ }
 {
     let kind = f.kind;
     match kind {
@@ -171,12 +171,12 @@ fn told_kind(f: Fields) -> Kind
 
 // The term with the number `own`, whose record lies within the bytes.
 pub fn read_term(bytes: &[u8], own: usize) -> TermRead
-    requires { ⌜ (own < 64) × (12 + 8 * own ≤ length (now bytes)) ⌝ }
+    requires { ⌜ RecordOf (now bytes) own ⌝ }
     ensures { λ r. ⌜ r ≡ termRead (now (bytes .entry)) own ⌝ }
 {
     let f = read_fields(bytes, 4 + 8 * own);
     if judge(own, f) {
-        TermRead::Sound(Term { kind: told_kind(f) })
+        TermRead::Sound(Term { kind: kind_of(f) })
     } else {
         TermRead::Faulty
     }
@@ -184,10 +184,11 @@ pub fn read_term(bytes: &[u8], own: usize) -> TermRead
 
 // The term with the number `own`, whose record lies within the bytes and is not judged again.
 pub fn held_term(bytes: &[u8], own: usize) -> Term
-    requires { ⌜ (own < 64) × (12 + 8 * own ≤ length (now bytes)) ⌝ }
-    requires { ⌜ Faultless (termRead (now bytes) own) ⌝ }
+    requires { ⌜ SoundRecord (now bytes) own ⌝ }
     ensures { λ r. ⌜ termRead (now (bytes .entry)) own ≡ Sound r ⌝ }
 {
-    let f = read_fields(bytes, 4 + 8 * own);
-    Term { kind: told_kind(f) }
+    let held = read_fields(bytes, 4 + 8 * own);
+    Term {
+        kind: kind_of(held),
+    }
 }

@@ -1,7 +1,7 @@
 -- The greatest number of a set below an end.
--- Main results: `top-last`, `last-below`. Assume nothing.
-use mathlib.Core.Path.{_≡_, refl, sym, ap, _∙_}
-use mathlib.Core.Bool.{Bool, true, false, _&&_, and-true, and-false, false≢true}
+-- Main results: `top-last`, `last-all`, `last-below`, `last-determined`. Assume nothing.
+use mathlib.Core.Path.{_≡_, sym, ap, _∙_, subst}
+use mathlib.Core.Bool.{true, false, _&&_, and-true, and-false, false≢true, true≢false}
 use Prim.Native.Nat.{ℕ, zero, suc, _+_, _-_, _*_, _%_, _^_, _<_, _≤_}
 use native.Mathlib.Nat.{pow-suc, div-eq-of-lt-le}
 use native.Mathlib.Decide.{decLt}
@@ -40,9 +40,9 @@ top-last set fits =
         let e : suc i - 1 ≡ i = omega arith in
         rw e (highest-inside set i small large)
 
-both-inside : (a b : Bool) → (a && b) ≡ true → (a ≡ true) × (b ≡ true)
-both-inside true b h = (refl, h)
-both-inside false b h = absurd (false≢true h)
+-- Below 64 lies the whole set.
+pub last-all : {set end r : ℕ} → end ≡ 64 → Last set 64 r → Last set end r
+last-all {set} {end} {r} all found = subst (λ e. Last set e r) (sym all) found
 
 -- What is left below `end` has the same greatest number as the set has there.
 module _ (set end r : ℕ) (small : end < 64) (found : Last (bitAnd set (2 ^ end - 1)) 64 r) where
@@ -66,3 +66,12 @@ module _ (set end r : ℕ) (small : end < 64) (found : Last (bitAnd set (2 ^ end
         none-between = λ k above below. sym (below-held k below) ∙ found .none-between k above (omega arith);
         inside = λ some. sym (below-held (r - 1) (omega arith)) ∙ found .inside some;
       }
+
+-- One number is one more than the greatest below an end.
+pub last-determined : {set end r s : ℕ} → Last set end r → Last set end s → r ≡ s
+last-determined {set} {end} {r} {s} one other = by (decLt r s) (decLt s r)
+  where
+    by : Dec (r < s) → Dec (s < r) → r ≡ s
+    by (yes low) _ = absurd (true≢false (sym (other .inside (omega arith)) ∙ one .none-between (s - 1) (omega arith) (omega (arith, other .backward))))
+    by (no _) (yes low) = absurd (true≢false (sym (one .inside (omega arith)) ∙ other .none-between (r - 1) (omega arith) (omega (arith, one .backward))))
+    by (no l) (no u) = omega arith

@@ -12,8 +12,7 @@ use Rattle.set_members.specs.Sets.{holds}
 use Rattle.set_members.proofs.Digits.{holds-zero, holds-suc, holds-none, holds-and}
 use Rattle.set_extremes.specs.Ends.{Least, Next, Rest}
 use Rattle.set_extremes.proofs.Lowest.{lowest}
-use Rattle.set_extremes.proofs.Onward.{least-first}
-use Rattle.set_extremes.proofs.Unique.{next-unique}
+use Rattle.set_extremes.proofs.Onward.{least-first, next-determined}
 
 -- An odd number less 1 has the other digits that it had.
 odd-digits : (set : ℕ) → holds set 0 ≡ true → (k : ℕ) → (holds set k && holds (set - 1) k) ≡ (not (eqb k 0) && holds set k)
@@ -47,13 +46,13 @@ least-taken {set} some small =
     let found = lowest 64 set some small in
     record {
       others = λ least first k.
-          let same = next-unique set 0 _ least (least-first (found .0) (found .1)) first in
+          let same = next-determined (least-first (record { below = found .0; least = found .1 })) first in
           holds-and set (set - 1) k ∙ less-digits _ set (found .1) k ∙ ap (λ i. not (eqb k i) && holds set k) same;
     }
 
 -- Of the empty set nothing can be taken.
-pub none-taken : Rest 0 0
-none-taken = record { others = λ least first k. holds-none k ∙ sym (ap (λ b. not (eqb k least) && b) (holds-none k) ∙ and-false (not (eqb k least))) }
+pub none-taken : {set : ℕ} → set ≡ 0 → Rest set 0
+none-taken empty = record { others = λ least first k. holds-none k ∙ sym (ap (λ b. not (eqb k least) && b) (ap (λ s. holds s k) empty ∙ holds-none k) ∙ and-false (not (eqb k least))) }
 
 -- In such a loop: `rest` has the numbers of the set from c on.
 pub record From (set c rest : ℕ) : Type 0 where

@@ -1,49 +1,54 @@
--- The public functions on the ends of a set: each contract leaves one answer.
+-- The functions on the extremes of a set: each contract leaves one answer.
 -- Main results: a law NAME-unique for each public function NAME. Assume nothing.
-use mathlib.Core.Path.{_≡_, sym, _∙_}
-use mathlib.Core.Bool.{not, _&&_, true≢false}
-use Prim.Native.Nat.{ℕ, _-_, _^_, _<_}
+use mathlib.Core.Path.{_≡_, refl, subst}
+use mathlib.Core.Bool.{Bool, true, false}
+use Prim.Native.Nat.{ℕ, zero, suc, _+_, _<_}
 use native.Mathlib.Decide.{decLt}
 use native.Mathlib.Omega.{arith}
-use lib.Dec.{eqb}
+use Rattle.unique.specs.Twice.{Twice}
 use Rattle.set_members.specs.Sets.{holds}
-use Rattle.set_members.proofs.Unique.{told-unique}
-use Rattle.set_extremes.specs.Ends.{Next, Rest, Last}
-use Rattle.set_extremes.proofs.Lowest.{lowest}
-use Rattle.set_extremes.proofs.Onward.{least-first, first-none}
+use Rattle.set_members.proofs.Unique.{sets-determined}
+use Rattle.set_extremes.specs.Ends.{Next}
+use Rattle.set_extremes.proofs.Downward.{last-determined}
+use Rattle.set_extremes.proofs.Onward.{next-determined}
+use Rattle.set_extremes.proofs.first.Kinds as first-kinds
+use Rattle.set_extremes.proofs.first.Reads as first
+use Rattle.set_extremes.proofs.last.Kinds as last-kinds
+use Rattle.set_extremes.proofs.last.Reads as last
+use Rattle.set_extremes.proofs.next.Kinds as next-kinds
+use Rattle.set_extremes.proofs.next.Reads as next
+use Rattle.set_extremes.proofs.rest.Kinds as rest-kinds
+use Rattle.set_extremes.proofs.rest.Reads as rest
 
--- A set has one least number from a number on.
-pub next-unique : (set from r s : ℕ) → Next set from r → Next set from s → r ≡ s
-next-unique set from r s first second = by (decLt r s) (decLt s r)
+pub next-unique : Twice next-kinds.ps next-kinds.r next.Post λ κs a x y end end′. x ≡ y
+next-unique κs a x y end end′ one other = next-determined one other
+
+pub first-unique : Twice first-kinds.ps first-kinds.r first.Post λ κs a x y end end′. x ≡ y
+first-unique κs a x y end end′ one other = next-determined one other
+
+-- What is passed holds none: one number more.
+passed-more : (set at : ℕ) → ((k : ℕ) → k < at → holds set k ≡ false) → holds set at ≡ false → (k : ℕ) → k < suc at → holds set k ≡ false
+passed-more set at none out k below = by (decLt k at)
   where
-    by : Dec (r < s) → Dec (s < r) → r ≡ s
-    by (yes low) _ = absurd (true≢false (sym (first .inside (omega (arith, second .most))) ∙ second .none-between r (first .forward) low))
-    by (no _) (yes low) = absurd (true≢false (sym (second .inside (omega (arith, first .most))) ∙ first .none-between s (second .forward) low))
-    by (no l) (no u) = omega arith
+    by : Dec (k < at) → holds set k ≡ false
+    by (yes low) = none k low
+    by (no here) = let same : at ≡ k = omega arith in subst (λ i. holds set i ≡ false) same out
 
-pub first-unique : (set r s : ℕ) → Next set 0 r → Next set 0 s → r ≡ s
-first-unique set = next-unique set 0
-
--- A set has one rest, since it has a least number or is empty.
-pub rest-unique : (set r s : ℕ) → set < 2 ^ 64 → r < 2 ^ 64 → s < 2 ^ 64 → Rest set r → Rest set s → r ≡ s
-rest-unique set r s small hr hs first second = by (decLt 0 set)
+-- Every set has a least number below 64, or none there: looked for from a number on that nothing lies below.
+least-exists : (set count at : ℕ) → at + count ≡ 64 → ((k : ℕ) → k < at → holds set k ≡ false) → (r : ℕ) × Next set 0 r
+least-exists set zero at e none =
+    (64, record { forward = omega arith; most = omega arith; none-between = λ k above below. none k (omega arith); inside = λ below. absurd (omega arith) })
+least-exists set (suc count) at e none = by (holds set at) refl (λ out. least-exists set count (suc at) (omega arith) (passed-more set at none out))
   where
-    at-least : (least : ℕ) → Next set 0 least → r ≡ s
-    at-least least found = told-unique (λ k. not (eqb k least) && holds set k) r s hr hs (first .others least found) (second .others least found)
+    by : (b : Bool) → holds set at ≡ b → (holds set at ≡ false → (r : ℕ) × Next set 0 r) → (r : ℕ) × Next set 0 r
+    by true inside onward = (at, record { forward = omega arith; most = omega arith; none-between = λ k above below. none k below; inside = λ below. inside })
+    by false out onward = onward out
 
-    by : Dec (0 < set) → r ≡ s
-    by (yes some) =
-        let found = lowest 64 set some small in
-        at-least _ (least-first (found .0) (found .1))
-    by (no none) =
-        let empty : set ≡ 0 = omega arith in
-        at-least 64 (rw empty first-none)
+-- A set has one rest, whatever its least number is.
+pub rest-unique : Twice rest-kinds.ps rest-kinds.r rest.Post λ κs a x y end end′. x ≡ y
+rest-unique κs a x y end end′ one other =
+    let found = least-exists (a .0) 64 0 (omega arith) (λ k below. absurd (omega arith)) in
+    sets-determined _ (one .others (found .0) (found .1)) (other .others (found .0) (found .1))
 
--- One number is one more than the greatest below an end.
-pub last-unique : (set end r s : ℕ) → Last set end r → Last set end s → r ≡ s
-last-unique set end r s first second = by (decLt r s) (decLt s r)
-  where
-    by : Dec (r < s) → Dec (s < r) → r ≡ s
-    by (yes low) _ = absurd (true≢false (sym (second .inside (omega arith)) ∙ first .none-between (s - 1) (omega arith) (omega (arith, second .backward))))
-    by (no _) (yes low) = absurd (true≢false (sym (first .inside (omega arith)) ∙ second .none-between (r - 1) (omega arith) (omega (arith, first .backward))))
-    by (no l) (no u) = omega arith
+pub last-unique : Twice last-kinds.ps last-kinds.r last.Post λ κs a x y end end′. x ≡ y
+last-unique κs a x y end end′ one other = last-determined one other

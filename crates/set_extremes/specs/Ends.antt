@@ -1,5 +1,5 @@
 -- The least and the greatest number of a set of numbers.
--- Main definitions: `Least`, `Next`, `Rest`, `Last`. Assume nothing.
+-- Main definitions: `Least`, `LeastBelow`, `Next`, `Rest`, `Last`. Assume nothing.
 use mathlib.Core.Path.{_≡_}
 use mathlib.Core.Bool.{true, false, not, _&&_}
 use Prim.Native.Nat.{ℕ, _-_, _<_, _≤_}
@@ -10,6 +10,11 @@ use Rattle.set_members.specs.Sets.{holds}
 pub record Least (set i : ℕ) : Type 0 where
   pub inside : holds set i ≡ true
   pub none-below : (k : ℕ) → k < i → holds set k ≡ false
+
+-- i is the least number in a set of numbers below 64.
+pub record LeastBelow (set i : ℕ) : Type 0 where
+  pub below : i < 64
+  pub least : Least set i
 
 -- r is the least number in the set from `from` on, or 64, where there is none below 64.
 pub record Next (set from r : ℕ) : Type 0 where

@@ -1,11 +1,11 @@
 // The least and the greatest number of a set of numbers below 64: loops go through the set by them.
 ghost use Prim.Native.Nat.{_<_, _≤_};
-ghost use Rattle.set_extremes.specs.Ends.{Least, Next, Rest, Last};
+ghost use Rattle.set_extremes.specs.Ends.{LeastBelow, Next, Rest, Last};
 
 // The least number of a set that is not empty.
 fn least(set: u64) -> usize
     requires { ⌜ 0 < set ⌝ }
-    ensures { λ r. ⌜ (r < 64) × Least set r ⌝ }
+    ensures { λ r. ⌜ LeastBelow set r ⌝ }
 {
     u64::trailing_zeros(set) as usize
 }

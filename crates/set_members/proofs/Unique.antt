@@ -1,13 +1,25 @@
 -- The public functions on sets: each contract leaves one answer.
--- Main results: `sets-equal`, `told-unique`, and by them a law NAME-unique for each public function NAME. Assume nothing.
+-- Main results: `sets-equal`, `sets-determined`, and by them a law NAME-unique for each public function NAME. Assume nothing.
 use mathlib.Core.Path.{_≡_, sym, _∙_}
-use mathlib.Core.Bool.{Bool, not, _&&_, _||_, true≢false}
-use Prim.Native.Nat.{ℕ, zero, suc, _/_, _%_, _^_, _<_}
+use mathlib.Core.Bool.{Bool, true≢false}
+use Prim.Native.Nat.{ℕ, zero, suc, _+_, _/_, _%_, _^_, _<_, _≤_}
 use native.Mathlib.Nat.{pow-suc}
 use native.Mathlib.Omega.{arith}
 use lib.Dec.{eqb}
+use lib.Pow.{pow-mono}
+use Rattle.unique.specs.Twice.{Twice}
 use Rattle.set_members.specs.Sets.{holds}
 use Rattle.set_members.proofs.Digits.{holds-zero, holds-suc}
+use Rattle.set_members.proofs.common.Kinds as common-kinds
+use Rattle.set_members.proofs.common.Reads as common
+use Rattle.set_members.proofs.has.Kinds as has-kinds
+use Rattle.set_members.proofs.has.Reads as has
+use Rattle.set_members.proofs.union.Kinds as union-kinds
+use Rattle.set_members.proofs.union.Reads as union
+use Rattle.set_members.proofs.with.Kinds as with-kinds
+use Rattle.set_members.proofs.with.Reads as with
+use Rattle.set_members.proofs.without.Kinds as without-kinds
+use Rattle.set_members.proofs.without.Reads as without
 
 -- Two bits that pass the test alike are equal.
 bits-equal : (p q : ℕ) → p < 2 → q < 2 → eqb p 1 ≡ eqb q 1 → p ≡ q
@@ -29,22 +41,29 @@ sets-equal (suc width) a b ha hb same =
     let rest : a / 2 ≡ b / 2 = sets-equal width (a / 2) (b / 2) half-a half-b (λ k h. sym (holds-suc a k) ∙ same (suc k) (omega arith) ∙ holds-suc b k) in
     omega arith
 
+-- A number is below its power of 2.
+below-power : (n : ℕ) → n < 2 ^ n
+below-power zero = omega arith
+below-power (suc n) = omega (arith, below-power n, pow-suc 2 n)
+
 -- A contract that says of every number whether it is in the answer leaves one answer.
-pub told-unique : (told : ℕ → Bool) (r s : ℕ) → r < 2 ^ 64 → s < 2 ^ 64 → ((k : ℕ) → holds r k ≡ told k) → ((k : ℕ) → holds s k ≡ told k) → r ≡ s
-told-unique told r s hr hs p q = sets-equal 64 r s hr hs (λ k h. p k ∙ sym (q k))
+pub sets-determined : {r s : ℕ} (inside : ℕ → Bool) → ((k : ℕ) → holds r k ≡ inside k) → ((k : ℕ) → holds s k ≡ inside k) → r ≡ s
+sets-determined {r} {s} inside first second =
+    let left : 2 ^ r ≤ 2 ^ (r + s) = pow-mono (omega arith) in
+    let right : 2 ^ s ≤ 2 ^ (r + s) = pow-mono (omega arith) in
+    sets-equal (r + s) r s (omega (arith, below-power r)) (omega (arith, below-power s)) (λ k h. first k ∙ sym (second k))
 
-module _ (r s : ℕ) (hr : r < 2 ^ 64) (hs : s < 2 ^ 64) where
-  pub with-unique : (set i : ℕ) → ((k : ℕ) → holds r k ≡ (eqb k i || holds set k)) → ((k : ℕ) → holds s k ≡ (eqb k i || holds set k)) → r ≡ s
-  with-unique set i = told-unique (λ k. eqb k i || holds set k) r s hr hs
+pub with-unique : Twice with-kinds.ps with-kinds.r with.Post λ κs a x y end end′. x ≡ y
+with-unique κs a x y end end′ first second = sets-determined _ first second
 
-  pub union-unique : (a b : ℕ) → ((k : ℕ) → holds r k ≡ (holds a k || holds b k)) → ((k : ℕ) → holds s k ≡ (holds a k || holds b k)) → r ≡ s
-  union-unique a b = told-unique (λ k. holds a k || holds b k) r s hr hs
+pub union-unique : Twice union-kinds.ps union-kinds.r union.Post λ κs a x y end end′. x ≡ y
+union-unique κs a x y end end′ first second = sets-determined _ first second
 
-  pub common-unique : (a b : ℕ) → ((k : ℕ) → holds r k ≡ (holds a k && holds b k)) → ((k : ℕ) → holds s k ≡ (holds a k && holds b k)) → r ≡ s
-  common-unique a b = told-unique (λ k. holds a k && holds b k) r s hr hs
+pub common-unique : Twice common-kinds.ps common-kinds.r common.Post λ κs a x y end end′. x ≡ y
+common-unique κs a x y end end′ first second = sets-determined _ first second
 
-  pub without-unique : (set i : ℕ) → ((k : ℕ) → holds r k ≡ (not (eqb k i) && holds set k)) → ((k : ℕ) → holds s k ≡ (not (eqb k i) && holds set k)) → r ≡ s
-  without-unique set i = told-unique (λ k. not (eqb k i) && holds set k) r s hr hs
+pub without-unique : Twice without-kinds.ps without-kinds.r without.Post λ κs a x y end end′. x ≡ y
+without-unique κs a x y end end′ first second = sets-determined _ first second
 
-pub has-unique : (set i : ℕ) (r s : Bool) → r ≡ holds set i → s ≡ holds set i → r ≡ s
-has-unique set i r s p q = p ∙ sym q
+pub has-unique : Twice has-kinds.ps has-kinds.r has.Post λ κs a x y end end′. x ≡ y
+has-unique κs a x y end end′ first second = first ∙ sym second

@@ -92,6 +92,14 @@ fn show(made: Made) {
     }
 }
 
+// The run divides as it does here: by the inverse, which is never refused.
+fn quotient(a: Fraction, b: Fraction) -> Made
+    requires { ⌜ Good a ⌝ }
+    requires { ⌜ Good b ⌝ }
+{
+    fraction_product::product(a, fraction_inverse::inverted(b))
+}
+
 // One line: product, quotient, sum, difference of a and b.
 fn show_operations(a: Fraction, b: Fraction)
     requires { ⌜ Good a ⌝ }
@@ -102,7 +110,7 @@ fn show_operations(a: Fraction, b: Fraction)
     show_fraction(b);
     io::write_all(1, b":");
     show(fraction_product::product(a, b));
-    show(fraction_product::quotient(a, b));
+    show(quotient(a, b));
     show(fraction_sum::sum(a, b));
     show(fraction_sum::difference(a, b));
     io::write_all(1, b"\n");

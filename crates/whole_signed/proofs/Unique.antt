@@ -1,20 +1,24 @@
--- The public functions on whole numbers: each contract leaves one answer.
--- Main results: `answer-unique`, and by it a law NAME-unique for each public function NAME. Assume nothing.
+-- The signed operations: each contract leaves one answer.
+-- Main results: a law NAME-unique for each public function NAME. Assume nothing.
 use mathlib.Core.Path.{_≡_, sym, _∙_}
-use lib.IntN.{ℤ, negℤ, _+ℤ_, _*ℤ_}
+use Rattle.unique.specs.Twice.{Twice}
+use Rattle.whole_signed.proofs.opposite.Kinds as opposite-kinds
+use Rattle.whole_signed.proofs.opposite.Reads as opposite
+use Rattle.whole_signed.proofs.plus.Kinds as plus-kinds
+use Rattle.whole_signed.proofs.plus.Reads as plus
+use Rattle.whole_signed.proofs.times.Kinds as times-kinds
+use Rattle.whole_signed.proofs.times.Reads as times
+use Rattle.whole_signed.proofs.wide.Kinds as wide-kinds
+use Rattle.whole_signed.proofs.wide.Reads as wide
 
--- A contract that says what the answer is leaves one.
-pub answer-unique : {A : Type 0} {answer r s : A} → r ≡ answer → s ≡ answer → r ≡ s
-answer-unique p q = p ∙ sym q
+pub wide-unique : Twice wide-kinds.ps wide-kinds.r wide.Post λ κs a x y end end′. x ≡ y
+wide-unique κs a x y end end′ first second = first ∙ sym second
 
-pub wide-unique : (a r s : ℤ) → r ≡ a → s ≡ a → r ≡ s
-wide-unique a r s p q = answer-unique p q
+pub times-unique : Twice times-kinds.ps times-kinds.r times.Post λ κs a x y end end′. x ≡ y
+times-unique κs a x y end end′ first second = first .is ∙ sym (second .is)
 
-pub times-unique : (a b r s : ℤ) → r ≡ a *ℤ b → s ≡ a *ℤ b → r ≡ s
-times-unique a b r s p q = answer-unique p q
+pub plus-unique : Twice plus-kinds.ps plus-kinds.r plus.Post λ κs a x y end end′. x ≡ y
+plus-unique κs a x y end end′ first second = first ∙ sym second
 
-pub plus-unique : (a b r s : ℤ) → r ≡ a +ℤ b → s ≡ a +ℤ b → r ≡ s
-plus-unique a b r s p q = answer-unique p q
-
-pub opposite-unique : (a r s : ℤ) → r ≡ negℤ a → s ≡ negℤ a → r ≡ s
-opposite-unique a r s p q = answer-unique p q
+pub opposite-unique : Twice opposite-kinds.ps opposite-kinds.r opposite.Post λ κs a x y end end′. x ≡ y
+opposite-unique κs a x y end end′ first second = first ∙ sym second

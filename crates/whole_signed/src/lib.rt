@@ -1,7 +1,8 @@
 // The signed operations, one to a function: what each gives as a whole number.
 ghost use mathlib.Core.Path.{_≡_};
-ghost use Prim.Native.Nat.{_<_, _≤_, _^_};
-ghost use lib.IntN.{_+ℤ_, _*ℤ_, negℤ, natAbs};
+ghost use Prim.Native.Nat.{_<_, _^_};
+ghost use lib.IntN.{_+ℤ_, negℤ, natAbs};
+ghost use Rattle.whole_signed.specs.Contract.{Summands, Product};
 
 // The same number in 64 bits.
 pub fn wide(a: i32) -> i64
@@ -12,16 +13,14 @@ pub fn wide(a: i32) -> i64
 
 // Two factors of 32 bits always fit: 2^31 times 2^31 is 2^62.
 pub fn times(a: i32, b: i32) -> i64
-    ensures { λ r. ⌜ r ≡ a *ℤ b ⌝ }
-    ensures { λ r. ⌜ natAbs r ≤ 2 ^ 62 ⌝ }
+    ensures { λ r. ⌜ Product a b r ⌝ }
 {
     wide(a) * wide(b)
 }
 
 // The bounds leave room for the sum: two products of numbers within the limits meet them.
 pub fn plus(a: i64, b: i64) -> i64
-    requires { ⌜ natAbs a < 2 ^ 62 ⌝ }
-    requires { ⌜ natAbs b < 2 ^ 62 ⌝ }
+    requires { ⌜ Summands a b ⌝ }
     ensures { λ r. ⌜ r ≡ a +ℤ b ⌝ }
 {
     a + b

@@ -2,7 +2,7 @@
 use whole_signed::wide;
 ghost use mathlib.Core.Path.{_≡_};
 ghost use mathlib.Core.Bool.{not};
-ghost use Prim.Native.Nat.{_<_, _≤_, _^_};
+ghost use Prim.Native.Nat.{_<_, _^_};
 ghost use lib.IntN.{negℤ, natAbs, pos};
 ghost use lib.Signed.{nonNeg};
 ghost use Rattle.whole.specs.Signed.{signed};
@@ -43,7 +43,7 @@ pub fn size(a: i32) -> u64
 
 // A size within the limit, as it is.
 pub fn narrow(size: u64) -> i32
-    requires { ⌜ size ≤ 2147483647 ⌝ }
+    requires { ⌜ size < 2 ^ 31 ⌝ }
     ensures { λ r. ⌜ r ≡ pos size ⌝ }
 {
     size as i32
@@ -51,7 +51,7 @@ pub fn narrow(size: u64) -> i32
 
 // A size within the limit, with the sign of another number.
 pub fn put_back(like: i64, size: u64) -> i32
-    requires { ⌜ size ≤ 2147483647 ⌝ }
+    requires { ⌜ size < 2 ^ 31 ⌝ }
     ensures { λ r. ⌜ r ≡ signed like size ⌝ }
 {
     let upward = size as i32;

@@ -12,13 +12,15 @@ use Rattle.fraction_inverse.proofs.negated.Tie as tie
 
 opposite-requires : tie.Need-opposite-requires
 unfolding limit
-opposite-requires c κs = rw (toZ-ofZ (good-num (c .before .pre))) (omega arith)
+opposite-requires c κs = let start : tie.Start = search in rw (toZ-ofZ (good-num (start .pre))) (omega arith)
 
 returns : tie.Need-returns
 returns c =
-    let good = c .before .before .before .pre in
-    let opposite = c .before .opposite in
-    negated-is good (kept w32 (opposite .result) (opposite .ok) ∙ (rw (toZ-ofZ (good-num good)) at (opposite .ensures))) (toZ-ofZ (good-den good))
+    let start : tie.Start = search in
+    let num : tie.After-opposite = search in
+    negated-is (start .pre)
+    (kept w32 (num .opposite .result) (num .opposite .ok) ∙ (rw (toZ-ofZ (good-num (start .pre))) at (num .opposite .ensures)))
+    (toZ-ofZ (good-den (start .pre)))
 
 pub negated-spec : {M : Type 1} → statement M
 negated-spec = tie.close (tie.spec opposite-requires returns)

@@ -1,6 +1,7 @@
 -- `fraction_reduce::bottoms` meets its contract: the size of a product is the product of the sizes.
 -- Assumes nothing.
-use mathlib.Core.Path.{ap, _∙_}
+use mathlib.Core.Path.{_≡_, ap, _∙_}
+use Prim.Native.Nat.{_*_}
 use native.Mathlib.Nat.{mul-pos}
 use native.Mathlib.Omega.{arith}
 use lib.IntN.{natAbs}
@@ -16,19 +17,18 @@ times-requires : tie.Need-times-requires
 times-requires c κs = search needs
 
 size-wide-requires : tie.Need-size-wide-requires
-size-wide-requires c κs = rw (kept w64 (c .times .result) (c .times .ok)) (omega arith)
+size-wide-requires c κs = rw (kept w64 (c .times .result) (c .times .ok)) (omega (arith, c .times .ensures .small))
 
 returns : tie.Need-returns
 returns c =
-    let start = c .before .before .before .before in
-    let times = c .before .times in
-    let p = start .pre .0 in
-    let q = start .pre .1 in
-    let dens = rw (toZ-ofZ (good-den p), toZ-ofZ (good-den q)) at (times .ensures .0) in
-    let is =
-    c .size-wide .ensures ∙ ap natAbs (kept w64 (times .result) (times .ok) ∙ dens) ∙ size-product (start .args .a .den) (start .args .b .den)
-    in
-    (is, rw is (mul-pos (p .least) (q .least)))
+    let product : tie.After-times = search in
+    let start : tie.Start = search in
+    let a = start .args .a in
+    let b = start .args .b in
+    let dens = rw (toZ-ofZ (good-den (start .pre .0)), toZ-ofZ (good-den (start .pre .1))) at (product .times .ensures .is) in
+    let is : c .size-wide .result ≡ natAbs (a .den) * natAbs (b .den) =
+    c .size-wide .ensures ∙ ap natAbs (kept w64 (product .times .result) (product .times .ok) ∙ dens) ∙ size-product (a .den) (b .den) in
+    record { is = is; positive = rw is (mul-pos (start .pre .0 .least) (start .pre .1 .least)) }
 
 pub bottoms-spec : {M : Type 1} → statement M
 bottoms-spec = tie.close (tie.spec times-requires size-wide-requires returns)

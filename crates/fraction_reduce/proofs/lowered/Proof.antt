@@ -1,20 +1,33 @@
-use Rattle.fraction_reduce.proofs.Operations.{lowest-stands}
-use Rattle.whole.proofs.Words.{fits-size, read-back}
-use Rattle.fraction.specs.Limits.{limit}
-use Rattle.fraction.specs.Exact.{value}
-use Rattle.whole.specs.Signed.{signed}
-use Rattle.whole.specs.Gcd.{gcd}
+-- `fraction_reduce::lowered` meets its contract: what is divided by the greatest common divisor gets no larger.
+-- Assumes nothing.
+use mathlib.Core.Path.{_≡_, ap, ap₂, _∙_}
+use Prim.Native.Nat.{_/_}
+use native.Mathlib.Nat.{div-le-self}
+use native.Mathlib.Omega.{arith}
+use lib.IntN.{pos, natAbs}
+use borrow.Author.Needs.{needs}
 use mir.Facts.{toZ-ofZ, sfits-widen}
 use mir.Syntax.{w32, w64}
 use mir.Val.{SFits}
-use lib.IntN.{pos, natAbs}
-use native.Mathlib.Nat.{div-le-self}
-use Prim.Native.Nat.{_/_}
-use native.Mathlib.Omega.{arith}
-use mathlib.Core.Path.{_≡_, ap, ap₂, _∙_}
-use borrow.Author.Needs.{needs}
+use Rattle.whole.specs.Gcd.{gcd}
+use Rattle.whole.specs.Signed.{signed}
+use Rattle.whole.proofs.Words.{fits-size, read-back}
+use Rattle.fraction.specs.Exact.{value}
+use Rattle.fraction.specs.Limits.{limit}
+use Rattle.fraction_reduce.specs.Contract.{Lowest}
+use Rattle.fraction_reduce.proofs.Operations.{lowest-stands}
 use Rattle.fraction_reduce.proofs.lowered.Statement.{statement}
 use Rattle.fraction_reduce.proofs.lowered.Tie as tie
+
+-- the places, each found by its type
+abbrev begun : tie.After-lowest → tie.Start
+begun c = search
+
+abbrev sized : tie.After-lowest → tie.After-size
+sized c = search
+
+abbrev sized2 : tie.After-lowest → tie.After-size2
+sized2 c = search
 
 num-fits : (c : tie.Start) → SFits w32 (c .args .f .num)
 unfolding limit
@@ -30,52 +43,44 @@ size-requires c κs = search needs
 size-requires-2 : tie.Need-size-requires-2
 size-requires-2 c κs = search needs
 
--- the two sizes
-top-size : (c : tie.After-size) → c .size .result ≡ natAbs (c .before .before .args .f .num)
-top-size c = c .size .ensures ∙ ap natAbs (toZ-ofZ (num-fits (c .before .before)))
-
-bottom-size : (c : tie.After-size2) → c .size2 .result ≡ natAbs (c .before .before .before .before .args .f .den)
-bottom-size c = c .size2 .ensures ∙ ap natAbs (toZ-ofZ (den-fits (c .before .before .before .before)))
-
 lowest-requires : tie.Need-lowest-requires
-lowest-requires c κs = omega (arith, bottom-size c, c .before .before .before .before .pre)
+lowest-requires c κs =
+    let start : tie.Start = search in
+    omega (arith, c .size2 .ensures ∙ ap natAbs (toZ-ofZ (den-fits start)), start .pre .least)
 
 -- what is left of the two numbers
-top-is : (c : tie.After-lowest) → let f = c .before .before .before .before .before .args .f in c .lowest .result .top ≡ natAbs (f .num) / gcd (natAbs (f .num)) (natAbs (f .den))
-top-is c = c .lowest .ensures .0 ∙ ap₂ (λ x y. x / gcd x y) (top-size (c .before .before .before)) (bottom-size (c .before))
-
-bottom-is : (c : tie.After-lowest) → let f = c .before .before .before .before .before .args .f in c .lowest .result .bottom ≡ natAbs (f .den) / gcd (natAbs (f .num)) (natAbs (f .den))
-bottom-is c = c .lowest .ensures .1 ∙ ap₂ (λ x y. y / gcd x y) (top-size (c .before .before .before)) (bottom-size (c .before))
+terms-are : (c : tie.After-lowest) → Lowest (natAbs (begun c .args .f .num)) (natAbs (begun c .args .f .den)) (c .lowest .result)
+terms-are c =
+    let top = sized c .size .ensures ∙ ap natAbs (toZ-ofZ (num-fits (begun c))) in
+    let bottom = sized2 c .size2 .ensures ∙ ap natAbs (toZ-ofZ (den-fits (begun c))) in
+    rw (top, bottom) at (c .lowest .ensures)
 
 wide-requires : tie.Need-wide-requires
 wide-requires c κs = search needs
 
 made-requires : tie.Need-made-requires
-unfolding limit
 made-requires c κs =
-    let start = c .before .before .before .before .before .before .before in
-    let f = start .args .f in
+    let terms : tie.After-lowest = search in
+    let f = begun terms .args .f in
     let common = gcd (natAbs (f .num)) (natAbs (f .den)) in
-    omega (
-      arith,
-      top-is (c .before .before),
-      bottom-is (c .before .before),
-      div-le-self (natAbs (f .num)) common,
-      div-le-self (natAbs (f .den)) common,
-      start .pre,
-    )
+    record {
+      above = omega (arith, terms-are terms .above, div-le-self (natAbs (f .num)) common, begun terms .pre .above);
+      below = omega (arith, terms-are terms .below, div-le-self (natAbs (f .den)) common, begun terms .pre .below);
+    }
 
 returns : tie.Need-returns
 unfolding value
 returns c =
-    let start = c .before .before .before .before .before .before .before .before in
+    let widened : tie.After-wide = search in
+    let terms : tie.After-lowest = search in
+    let start = begun terms in
     let num = num-fits start in
-    let like = read-back (c .before .wide .ensures ∙ toZ-ofZ num) (sfits-widen {w′ = w64} tt num) in
-    lowest-stands (start .args .f .num) (natAbs (start .args .f .den)) (start .pre .0)
-    (c .made .ensures .0 ∙ ap₂ signed like (top-is (c .before .before .before)))
-    (c .made .ensures .1 ∙ ap pos (bottom-is (c .before .before .before)))
-    (start .pre .1 .1)
-    (start .pre .1 .0)
+    let like = read-back (widened .wide .ensures ∙ toZ-ofZ num) (sfits-widen {w′ = w64} tt num) in
+    lowest-stands (start .args .f .num) (natAbs (start .args .f .den)) (start .pre .least)
+    (c .made .ensures .above ∙ ap₂ signed like (terms-are terms .above))
+    (c .made .ensures .below ∙ ap pos (terms-are terms .below))
+    (start .pre .above)
+    (start .pre .below)
 
 pub lowered-spec : {M : Type 1} → statement M
 lowered-spec =

@@ -14,7 +14,7 @@ sum-requires c κs = search needs
 
 returns : tie.Need-returns
 unfolding plus minus _-ℚ_
-returns c = rw (c .before .negated .ensures .same) at (c .sum .ensures)
+returns c = let opposite : tie.After-negated = search in rw (opposite .negated .ensures .same) at (c .sum .ensures)
 
 pub difference-spec : {M : Type 1} → statement M
 difference-spec = tie.close (tie.spec negated-requires sum-requires returns)

@@ -1,18 +1,18 @@
+-- `record_faults::first_beyond` meets its contract. The loop's invariant: the pairs passed have terms for sides.
+-- Assumes nothing.
 use borrow.Author.Needs.{needs}
 use borrow.Author.Tests.{not-true, not-false}
 use mathlib.Core.Path.{sym, _∙_}
 use Prim.Native.Nat.{_+_, _-_}
 use native.Mathlib.Omega.{arith}
-use Rattle.record_faults.specs.Walks.{Passed, soundTerm, soundPair}
-use Rattle.record_faults.proofs.Walking.{passed-none, passed-more, first-found, first-none}
+use Rattle.record_faults.specs.Contract.{AllSound}
+use Rattle.record_faults.specs.Faults.{soundPair}
+use Rattle.record_faults.proofs.First.{passed-none, passed-more, first-found, first-none}
 use Rattle.record_faults.proofs.first_beyond.Statement.{statement}
 use Rattle.record_faults.proofs.first_beyond.Tie as tie
-use Rattle.record_faults.proofs.first_beyond.Reads as reads
-use Rattle.record_faults.proofs.first_beyond.Lts as lts
-use Rattle.record_faults.proofs.both_below.Reads as both-below-reads
 
 abbrev Inv-loop : tie.InvT-loop
-Inv-loop bytes n m k₀ k = Passed 1 (m + 1) (soundPair bytes n) k
+Inv-loop bytes n m k₀ k = AllSound 1 (m + 1) (soundPair bytes n) k
 
 abbrev μ-loop : tie.MeasureT-loop
 μ-loop bytes n m k₀ k = m + 1 - k
@@ -40,7 +40,10 @@ both-below-requires c κs = search needs
 
 returns : tie.Need-returns Inv-loop μ-loop
 unfolding soundPair
-returns c = first-found (c .before .before .before .loop .inv) (sym (c .before .both-below .ensures) ∙ not-true _ (c .if1 .taken))
+returns c =
+    let tested : tie.After-both-below Inv-loop μ-loop = search in
+    let here : tie.At-loop Inv-loop μ-loop = search in
+    first-found (here .loop .inv) (sym (tested .both-below .ensures) ∙ not-true _ (c .if1 .taken))
 
 add-k : tie.Need-add-k Inv-loop μ-loop
 add-k c = search needs
@@ -50,10 +53,13 @@ loop-less c = search needs
 
 loop-again : tie.Need-loop-again Inv-loop μ-loop
 unfolding soundPair
-loop-again c = passed-more (c .before .before .before .loop .inv) (omega arith) (sym (c .before .both-below .ensures) ∙ not-false _ (c .if1 .left))
+loop-again c =
+    let tested : tie.After-both-below Inv-loop μ-loop = search in
+    let here : tie.At-loop Inv-loop μ-loop = search in
+    passed-more (here .loop .inv) (omega arith) (sym (tested .both-below .ensures) ∙ not-false _ (c .if1 .left))
 
 returns-2 : tie.Need-returns-2 Inv-loop μ-loop
-returns-2 c = first-none (c .before .loop .inv) (omega arith)
+returns-2 c = let here : tie.At-loop Inv-loop μ-loop = search in first-none (here .loop .inv) (omega arith)
 
 pub first-beyond-spec : {M : Type 1} → statement M
 first-beyond-spec =

@@ -1,14 +1,11 @@
+-- `record_fields::read_fields` meets its contract: eight pieces cut in a chain are the fields of the record.
+-- Assumes nothing.
 use borrow.Author.Needs.{needs}
 use native.Mathlib.Nat.{lt-of-lt-of-le}
 use lib.Dec.{lit≤}
-use denote.Ref.{now}
 use Rattle.record_fields.proofs.Chain.{fields-cut}
 use Rattle.record_fields.proofs.read_fields.Statement.{statement}
 use Rattle.record_fields.proofs.read_fields.Tie as tie
-use Rattle.record_fields.proofs.read_fields.Reads as reads
-use Rattle.record_fields.proofs.read_fields.Lts as lts
-use Rattle.record_cursor.proofs.Cursor.cut.Reads as cut-reads
-use Rattle.record_fields.proofs.eight_bytes.Reads as eight-bytes-reads
 
 eight-bytes-requires : tie.Need-eight-bytes-requires
 eight-bytes-requires c κs = search needs
@@ -38,7 +35,9 @@ cut-requires-8 : tie.Need-cut-requires-8
 cut-requires-8 c κs = search needs
 
 cast-t13 : tie.Need-cast-t13
-cast-t13 c = record { fits = lt-of-lt-of-le (c .before .before .before .before .before .before .before .before .cut .ensures .small) (lit≤ tt) }
+cast-t13 c =
+    let kind : tie.After-cut = search in
+    record { fits = lt-of-lt-of-le (kind .cut .ensures .small) (lit≤ tt) }
 
 cast-t14 : tie.Need-cast-t14
 cast-t14 c = search needs
@@ -63,18 +62,17 @@ cast-t20 c = search needs
 
 returns : tie.Need-returns
 returns c =
-    let r8 = c .before .before .before .before .before .before .before .before in
-    let r7 = r8 .before in
-    let r6 = r7 .before in
-    let r5 = r6 .before in
-    let r4 = r5 .before in
-    let r3 = r4 .before in
-    let r2 = r3 .before in
-    let r1 = r2 .before in
-    let read = r1 .before in
-    let known = read .before in
-    let s = known .before .args in
-    fields-cut (now (s .bytes)) (s .first) (λ i. known .shared-slice-known .given i .fits) (read .eight-bytes .ensures) (r1 .cut .ensures) (r2 .cut2 .ensures) (r3 .cut3 .ensures) (r4 .cut4 .ensures) (r5 .cut5 .ensures) (r6 .cut6 .ensures) (r7 .cut7 .ensures) (r8 .cut8 .ensures)
+    let padding : tie.After-cut8 = search in
+    let shift : tie.After-cut7 = search in
+    let mantissa : tie.After-cut6 = search in
+    let input3 : tie.After-cut5 = search in
+    let input2 : tie.After-cut4 = search in
+    let input1 : tie.After-cut3 = search in
+    let symbol : tie.After-cut2 = search in
+    let kind : tie.After-cut = search in
+    let eight : tie.After-eight-bytes = search in
+    let known : tie.After-shared-slice-known = search in
+    fields-cut _ _ (λ i. known .shared-slice-known .given i .fits) (eight .eight-bytes .ensures) (kind .cut .ensures) (symbol .cut2 .ensures) (input1 .cut3 .ensures) (input2 .cut4 .ensures) (input3 .cut5 .ensures) (mantissa .cut6 .ensures) (shift .cut7 .ensures) (padding .cut8 .ensures)
 
 pub read-fields-spec : {M : Type 1} → statement M
 read-fields-spec =

@@ -1,74 +1,46 @@
+-- `record_reader::judge` meets its contract: tests 5 and 6 in their order.
+-- Assumes nothing.
 use borrow.Author.Needs.{needs}
-use borrow.Author.Tests.{not-true, not-false}
-use mathlib.Core.Path.{sym, _∙_}
-use denote.Ref.{now}
-use Rattle.record_reader.proofs.Decoding.{read-term, read-goal, read-pair, read-sound}
+use Rattle.record_reader.proofs.Decoding.{answers-term, answers-goal, answers-pair, answers-sound}
 use Rattle.record_reader.proofs.judge.Statement.{statement}
 use Rattle.record_reader.proofs.judge.Tie as tie
-use Rattle.record_reader.proofs.judge.Reads as reads
-use Rattle.record_reader.proofs.judge.Lts as lts
-use Rattle.record_reader.proofs.refused.Reads as refused-reads
-use Rattle.record_faults.proofs.both_below.Reads as both-below-reads
-use Rattle.record_faults.proofs.first_beyond.Reads as first-beyond-reads
-use Rattle.record_faults.proofs.first_faulty.Reads as first-faulty-reads
 
--- src/lib.rt:70:9
 first-faulty-requires : tie.Need-first-faulty-requires
 first-faulty-requires c κs = search needs
 
--- src/lib.rt:72:9
 refused-requires : tie.Need-refused-requires
 refused-requires c κs = search needs
 
--- src/lib.rt:72:9
 returns : tie.Need-returns
-returns c =
-    let s = c .before .before .before .before in
-    c .refused .ensures ∙ sym (read-term (now (s .args .bytes)) (s .args .header) (s .pre) _ (c .before .before .first-faulty .ensures) (c .before .if1 .taken))
+returns c = search answers-term
 
--- src/lib.rt:74:9
 both-below-requires : tie.Need-both-below-requires
 both-below-requires c κs = search needs
 
--- src/lib.rt:75:9
 refused-requires-2 : tie.Need-refused-requires-2
 refused-requires-2 c κs = search needs
 
--- src/lib.rt:75:9
 returns-2 : tie.Need-returns-2
-returns-2 c =
-    let goal = c .before .before in
-    let terms = goal .before .before in
-    let s = terms .before .before in
-    c .refused2 .ensures
-    ∙ sym (read-goal (now (s .args .bytes)) (s .args .header) (s .pre) _ (terms .first-faulty .ensures) (goal .before .if1 .left) (sym (goal .both-below .ensures) ∙ not-true _ (c .before .if2 .taken)))
+returns-2 c = search answers-goal
 
--- src/lib.rt:77:9
 first-beyond-requires : tie.Need-first-beyond-requires
 first-beyond-requires c κs = search needs
 
--- src/lib.rt:79:9
 refused-requires-3 : tie.Need-refused-requires-3
 refused-requires-3 c κs = search needs
 
--- src/lib.rt:79:9
 returns-3 : tie.Need-returns-3
-returns-3 c =
-    let pairs = c .before .before in
-    let goal = pairs .before .before in
-    let terms = goal .before .before in
-    let s = terms .before .before in
-    c .refused3 .ensures
-    ∙ sym (read-pair (now (s .args .bytes)) (s .args .header) (s .pre) _ (terms .first-faulty .ensures) (goal .before .if1 .left) (sym (goal .both-below .ensures) ∙ not-false _ (pairs .before .if2 .left)) _ (pairs .first-beyond .ensures) (c .before .if3 .taken))
+returns-3 c = search answers-pair
 
--- src/lib.rt:64:1
 returns-4 : tie.Need-returns-4
 returns-4 c =
-    let pairs = c .before in
-    let goal = pairs .before .before in
-    let terms = goal .before .before in
-    let s = terms .before .before in
-    sym (read-sound (now (s .args .bytes)) (s .args .header) (s .pre) _ (terms .first-faulty .ensures) (goal .before .if1 .left) (sym (goal .both-below .ensures) ∙ not-false _ (pairs .before .if2 .left)) _ (pairs .first-beyond .ensures) (c .if3 .left))
+    let start : tie.Start = search in
+    let terms : tie.After-first-faulty = search in
+    let sound : tie.Else1 = search in
+    let goal : tie.After-both-below = search in
+    let below : tie.Else2 = search in
+    let pairs : tie.After-first-beyond = search in
+    answers-sound (start .pre) (terms .first-faulty .ensures) (sound .if1 .left) (goal .both-below .ensures) (below .if2 .left) (pairs .first-beyond .ensures) (c .if3 .left)
 
 pub judge-spec : {M : Type 1} → statement M
 judge-spec =

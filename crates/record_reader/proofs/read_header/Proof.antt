@@ -1,50 +1,36 @@
+-- `record_reader::read_header` meets its contract: four pieces in a chain are the header.
+-- Assumes nothing.
 use borrow.Author.Needs.{needs}
 use Rattle.record_reader.proofs.Chain.{header-read}
 use Rattle.record_reader.proofs.read_header.Statement.{statement}
 use Rattle.record_reader.proofs.read_header.Tie as tie
-use Rattle.record_reader.proofs.read_header.Reads as reads
-use Rattle.record_reader.proofs.read_header.Lts as lts
-use Rattle.record_cursor.proofs.Cursor.read.Reads as read-reads
 
--- src/lib.rt:42:9
 read-requires : tie.Need-read-requires
 read-requires c κs = search needs
 
--- src/lib.rt:43:9
 read-requires-2 : tie.Need-read-requires-2
 read-requires-2 c κs = search needs
 
--- src/lib.rt:44:9
 read-requires-3 : tie.Need-read-requires-3
 read-requires-3 c κs = search needs
 
--- src/lib.rt:45:9
 read-requires-4 : tie.Need-read-requires-4
 read-requires-4 c κs = search needs
 
--- src/lib.rt:47:12
 cast-t7 : tie.Need-cast-t7
 cast-t7 c = search needs
 
--- src/lib.rt:48:12
 cast-t8 : tie.Need-cast-t8
 cast-t8 c = search needs
 
--- src/lib.rt:49:15
 cast-t9 : tie.Need-cast-t9
 cast-t9 c = search needs
 
--- src/lib.rt:50:16
 cast-t10 : tie.Need-cast-t10
 cast-t10 c = search needs
 
--- src/lib.rt:37:1
 returns : tie.Need-returns
-returns c =
-    let r4 = c .before .before .before .before in
-    let r3 = r4 .before in
-    let r2 = r3 .before in
-    header-read (r2 .before .read .ensures) (r2 .read2 .ensures) (r3 .read3 .ensures) (r4 .read4 .ensures)
+returns c = search header-read
 
 pub read-header-spec : {M : Type 1} → statement M
 read-header-spec =

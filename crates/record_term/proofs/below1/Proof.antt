@@ -1,3 +1,5 @@
+-- `record_term::below1` meets its contract: one test is the test of all.
+-- Assumes nothing.
 use borrow.Author.Needs.{needs}
 use mathlib.Core.Path.{sym}
 use mathlib.Core.Bool.{and-true}
@@ -5,10 +7,7 @@ use Rattle.rules_problem.specs.Record.{every}
 use Rattle.record_term.specs.Terms.{below}
 use Rattle.record_term.proofs.below1.Statement.{statement}
 use Rattle.record_term.proofs.below1.Tie as tie
-use Rattle.record_term.proofs.below1.Reads as reads
-use Rattle.record_term.proofs.below1.Lts as lts
 
--- src/term.rt:67:1
 returns : tie.Need-returns
 unfolding below every
 returns c = sym (and-true _)

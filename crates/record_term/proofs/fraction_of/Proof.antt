@@ -1,27 +1,24 @@
+-- `record_term::fraction_of` meets its contract: mantissa over 2^shift, both read back as they were made.
+-- Assumes nothing.
 use borrow.Author.Needs.{needs}
 use mir.Syntax.{w32}
-use mir.Facts.{toZ-ofZ}
+use Rattle.whole.proofs.Words.{kept}
 use Rattle.rules_problem.specs.Record.{scaled}
-use Rattle.record_fields.specs.Told.{told}
+use Rattle.record_fields.specs.Contract.{fieldsOf}
 use Rattle.record_term.proofs.fraction_of.Statement.{statement}
 use Rattle.record_term.proofs.fraction_of.Tie as tie
-use Rattle.record_term.proofs.fraction_of.Reads as reads
-use Rattle.record_term.proofs.fraction_of.Lts as lts
-use Rattle.record_term.proofs.power.Reads as power-reads
-use Rattle.record_term.proofs.signed.Reads as signed-reads
 
--- src/term.rt:47:14
-signed-requires : tie.Need-signed-requires
-signed-requires c κs = search needs
+with-sign-requires : tie.Need-with-sign-requires
+with-sign-requires c κs = search needs
 
--- src/term.rt:48:14
 power-requires : tie.Need-power-requires
 power-requires c κs = search needs
 
--- src/term.rt:42:1
 returns : tie.Need-returns
-unfolding scaled told
-returns c = rw (toZ-ofZ {w = w32} {z = c .before .signed .result} (record { sfits = c .before .signed .ok }), toZ-ofZ {w = w32} {z = c .power .result} (record { sfits = c .power .ok }), c .before .signed .ensures, c .power .ensures)
+unfolding scaled fieldsOf
+returns c =
+    let num : tie.After-with-sign = search in
+    rw (kept w32 (num .with-sign .result) (num .with-sign .ok), kept w32 (c .power .result) (c .power .ok), num .with-sign .ensures, c .power .ensures)
 
 pub fraction-of-spec : {M : Type 1} → statement M
-fraction-of-spec = tie.close (tie.spec signed-requires power-requires returns)
+fraction-of-spec = tie.close (tie.spec with-sign-requires power-requires returns)

@@ -3,7 +3,7 @@
 use mathlib.Core.Path.{_≡_}
 use Prim.Native.Nat.{_+_, _*_}
 use native.Mathlib.Omega.{arith}
-use Rattle.record_term.specs.Terms.{termRead, Holds}
+use Rattle.record_term.specs.Terms.{termRead, HoldsTerm}
 use borrow.Author.Needs.{needs}
 use Rattle.record_term.proofs.held_term.Statement.{statement}
 use Rattle.record_term.proofs.held_term.Tie as tie
@@ -17,18 +17,19 @@ add-read-fields c = search needs
 read-fields-requires : tie.Need-read-fields-requires
 read-fields-requires c κs = search needs
 
-told-kind-requires : tie.Need-told-kind-requires
-told-kind-requires c κs = search needs
+kind-of-requires : tie.Need-kind-of-requires
+kind-of-requires c κs = search needs
 
 returns : tie.Need-returns
-unfolding termRead Holds
+unfolding termRead HoldsTerm
 returns c =
-    let s = c .before .before .before in
-    let own = s .args .own in
+    let start : tie.Start = search in
+    let fields : tie.After-read-fields = search in
+    let own = start .args .own in
     let bits : 8 * (4 + 8 * own) ≡ 32 + 64 * own = omega arith in
-    (rw (c .before .read-fields .ensures .same, bits) at (c .told-kind .ensures own)) (s .pre .1)
+    (rw (fields .read-fields .ensures .same, bits) at (c .kind-of .ensures own)) (start .pre .faultless)
 
 pub held-term-spec : {M : Type 1} → statement M
 held-term-spec =
     tie.close
-    (tie.spec mul-read-fields add-read-fields read-fields-requires told-kind-requires returns)
+    (tie.spec mul-read-fields add-read-fields read-fields-requires kind-of-requires returns)

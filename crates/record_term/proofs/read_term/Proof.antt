@@ -1,8 +1,10 @@
 -- `record_term::read_term` meets its contract: a record that is judged sound holds the term that its fields say.
 -- Assumes nothing.
-use mathlib.Core.Path.{_≡_, sym, _∙_}
+use mathlib.Core.Path.{_≡_, sym, ap, _∙_}
 use Prim.Native.Nat.{_+_, _*_}
 use native.Mathlib.Omega.{arith}
+use Rattle.rules_problem.specs.Record.{fieldsAt}
+use Rattle.record_fields.specs.Contract.{fieldsOf}
 use Rattle.record_term.specs.Terms.{termRead}
 use Rattle.record_term.proofs.Judging.{sound-holds, unsound-faulty}
 use borrow.Author.Needs.{needs}
@@ -21,28 +23,33 @@ read-fields-requires c κs = search needs
 judge-requires : tie.Need-judge-requires
 judge-requires c κs = search needs
 
-told-kind-requires : tie.Need-told-kind-requires
-told-kind-requires c κs = search needs
+kind-of-requires : tie.Need-kind-of-requires
+kind-of-requires c κs = search needs
+
+-- the fields that were read, as the rule has them
+abbrev begun : tie.After-read-fields → tie.Start
+begun c = search
+
+fields-are : (c : tie.After-read-fields) → let a = begun c .args in fieldsOf (c .read-fields .result) ≡ fieldsAt (a .bytes .now) (32 + 64 * a .own)
+fields-are c =
+    let a = begun c .args in
+    let bits : 8 * (4 + 8 * a .own) ≡ 32 + 64 * a .own = omega arith in
+    c .read-fields .ensures .same ∙ ap (fieldsAt (a .bytes .now)) bits
 
 returns : tie.Need-returns
 unfolding termRead
 returns c =
-    let judging = c .before .before in
-    let fields = judging .before in
-    let own = fields .before .before .args .own in
-    let bits : 8 * (4 + 8 * own) ≡ 32 + 64 * own = omega arith in
-    let sound = sym (judging .judge .ensures) ∙ c .before .if1 .taken in
-    rw (fields .read-fields .ensures .same, bits) at (sound-holds _ _ sound (c .told-kind .ensures own))
+    let fields : tie.After-read-fields = search in
+    let tested : tie.After-judge = search in
+    let sound : tie.Then1 = search in
+    rw (fields-are fields) at (sound-holds _ _ (sym (tested .judge .ensures) ∙ sound .if1 .taken) (c .kind-of .ensures (begun fields .args .own)))
 
 returns-2 : tie.Need-returns-2
 unfolding termRead
 returns-2 c =
-    let judging = c .before in
-    let fields = judging .before in
-    let own = fields .before .before .args .own in
-    let bits : 8 * (4 + 8 * own) ≡ 32 + 64 * own = omega arith in
-    let unsound = sym (judging .judge .ensures) ∙ c .if1 .left in
-    rw (fields .read-fields .ensures .same, bits) at (unsound-faulty _ unsound)
+    let fields : tie.After-read-fields = search in
+    let tested : tie.After-judge = search in
+    rw (fields-are fields) at (unsound-faulty _ (sym (tested .judge .ensures) ∙ c .if1 .left))
 
 pub read-term-spec : {M : Type 1} → statement M
 read-term-spec =
@@ -52,6 +59,6 @@ read-term-spec =
     add-read-fields
     read-fields-requires
     judge-requires
-    told-kind-requires
+    kind-of-requires
     returns
     returns-2)

@@ -9,7 +9,9 @@ cast-result : tie.Need-cast-result
 cast-result c = omega (arith, trailing-le 64 (c .args .set))
 
 returns : tie.Need-returns
-returns c = lowest 64 (c .args .set) (c .pre) (c .fits .set .fits)
+returns c =
+    let found = lowest 64 (c .args .set) (c .pre) (c .fits .set .fits) in
+    record { below = found .0; least = found .1 }
 
 pub least-spec : {M : Type 1} → statement M
 least-spec = tie.close (tie.spec cast-result returns)

@@ -13,7 +13,7 @@ is-fraction-requires c κs = search needs
 
 returns : tie.Need-returns
 returns c passed =
-    let start = c .before .before .before in
+    let start : tie.Start = search in
     let num-fits : SFits w32 (start .args .f .num) = search needs in
     let den-fits : SFits w32 (start .args .f .den) = search needs in
     tested-good (start .args .f) (sym (rw (toZ-ofZ num-fits, toZ-ofZ den-fits) at (c .is-fraction .ensures)) ∙ passed)

@@ -10,7 +10,11 @@ is-good-requires-2 : tie.Need-is-good-requires-2
 is-good-requires-2 c κs = search needs
 
 show-operations-requires : tie.Need-show-operations-requires
-show-operations-requires c κs = (c .before .before .before .is-good .ensures (c .before .before .if1 .taken), c .before .is-good2 .ensures (c .if2 .taken))
+show-operations-requires c κs =
+    let first : tie.After-is-good = search in
+    let passed : tie.Then1 = search in
+    let second : tie.After-is-good2 = search in
+    (first .is-good .ensures (passed .if1 .taken), second .is-good2 .ensures (c .if2 .taken))
 
 returns : tie.Need-returns
 returns c = search needs

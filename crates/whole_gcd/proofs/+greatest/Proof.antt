@@ -34,7 +34,9 @@ greatest-greatest-requires : (t : ℕ) → greatest-lts.Need-greatest-requires (
   greatest-below t,
   greatest.Post,
 ) (greatest-at t) greatest.Post
-greatest-greatest-requires t c κs = omega (arith, mod-lt (c .before .args .a) {m = c .before .args .b} (search needs))
+greatest-greatest-requires t c κs =
+    let start : greatest-lts.Start (greatest-below t, greatest.Post) (greatest-at t) greatest.Post = search in
+    omega (arith, mod-lt (start .args .a) {m = start .args .b} (search needs))
 
 greatest-returns :
     (t : ℕ) →

@@ -6,10 +6,10 @@ use Rattle.whole_signed.proofs.plus.Statement.{statement}
 use Rattle.whole_signed.proofs.plus.Tie as tie
 
 add-result : tie.Need-add-result
-add-result c = rw (toZ-ofZ (c .fits .a), toZ-ofZ (c .fits .b)) (fits-sum (c .args .a) (c .args .b) (c .pre .0) (c .pre .1))
+add-result c = rw (toZ-ofZ (c .fits .a), toZ-ofZ (c .fits .b)) (fits-sum (c .args .a) (c .args .b) (c .pre .first) (c .pre .second))
 
 returns : tie.Need-returns
-returns c = rw (toZ-ofZ (c .fits .a), toZ-ofZ (c .fits .b)) (toZ-ofZ (fits-sum (c .args .a) (c .args .b) (c .pre .0) (c .pre .1)))
+returns c = rw (toZ-ofZ (c .fits .a), toZ-ofZ (c .fits .b)) (toZ-ofZ (fits-sum (c .args .a) (c .args .b) (c .pre .first) (c .pre .second)))
 
 pub plus-spec : {M : Type 1} → statement M
 plus-spec = tie.close (tie.spec add-result returns)

@@ -1,8 +1,10 @@
 -- `whole_size::size_wide` meets its contract: below zero it is the opposite that is the size.
 -- Assumes nothing.
-use mathlib.Core.Path.{sym, _∙_, _≡_}
+use mathlib.Core.Path.{_≡_, sym, _∙_}
+use mathlib.Core.Bool.{not}
 use native.Mathlib.Omega.{arith}
 use lib.IntN.{negℤ}
+use lib.Signed.{nonNeg}
 use borrow.Author.Needs.{needs}
 use mir.Facts.{toZ-ofZ}
 use mir.Syntax.{w64}
@@ -12,35 +14,44 @@ use Rattle.whole.proofs.Words.{read-back, fits-size, size-upward, size-opposite
 use Rattle.whole_size.proofs.size_wide.Statement.{statement}
 use Rattle.whole_size.proofs.size_wide.Tie as tie
 
+-- the places, each found by its type
+abbrev begun : tie.After-negative → tie.Start
+begun c = search
+
+abbrev tested : tie.After-opposite-wide → tie.After-negative
+tested c = search
+
 negative-requires : tie.Need-negative-requires
 negative-requires c κs = search needs
 
 opposite-wide-requires : tie.Need-opposite-wide-requires
 opposite-wide-requires c κs = search needs
 
+-- the sign as it was tested
+sign-is : (c : tie.After-negative) → c .negative .result ≡ not (nonNeg (begun c .args .a))
+sign-is c = rw (toZ-ofZ (begun c .fits .a)) at (c .negative .ensures)
+
 -- the opposite, read back
-opposite-back : (c : tie.After-opposite-wide) → toZ w64 (ofZ w64 (c .opposite-wide .result)) ≡ negℤ (c .before .before .before .args .a)
+opposite-back : (c : tie.After-opposite-wide) → toZ w64 (ofZ w64 (c .opposite-wide .result)) ≡ negℤ (begun (tested c) .args .a)
 opposite-back c =
-    let start = c .before .before .before in
+    let start = begun (tested c) in
     let a = start .args .a in
     read-back (rw (toZ-ofZ (start .fits .a)) at (c .opposite-wide .ensures)) (fits-size w64 (negℤ a) (omega (arith, size-negated a)))
 
 cast-result : tie.Need-cast-result
 cast-result c =
-    let start = c .before .before .before in
-    let a = start .args .a in
-    rw (opposite-back c)
-    (size-opposite a (start .pre) (sym (rw (toZ-ofZ (start .fits .a)) at (c .before .before .negative .ensures)) ∙ c .before .if1 .taken))
+    let below : tie.Then1 = search in
+    let start = begun (tested c) in
+    rw (opposite-back c) (size-opposite (start .args .a) (start .pre) (sym (sign-is (tested c)) ∙ below .if1 .taken))
 
 cast-result-2 : tie.Need-cast-result-2
 cast-result-2 c =
-    let start = c .before .before in
-    rw (toZ-ofZ (start .fits .a))
-    (size-upward (start .args .a) (start .pre) (sym (rw (toZ-ofZ (start .fits .a)) at (c .before .negative .ensures)) ∙ c .if1 .left))
+    let tested : tie.After-negative = search in
+    let start = begun tested in
+    rw (toZ-ofZ (start .fits .a)) (size-upward (start .args .a) (start .pre) (sym (sign-is tested) ∙ c .if1 .left))
 
 returns : tie.Need-returns
-returns c =
-    rw (opposite-back c) (size-negated (c .before .before .before .args .a))
+returns c = rw (opposite-back c) (size-negated (begun (tested c) .args .a))
 
 returns-2 : tie.Need-returns-2
 returns-2 c = search needs

@@ -13,11 +13,12 @@ lowered-requires c κs = search needs
 
 returns : tie.Need-returns
 returns c =
-    let start = c .before .before in
-    rw (c .before .if1 .taken) (rw (toZ-ofZ (start .fits .n)) at (c .whole .ensures))
+    let one : tie.Then1 = search in
+    let start : tie.Start = search in
+    rw (one .if1 .taken) (rw (toZ-ofZ (start .fits .n)) at (c .whole .ensures))
 
 returns-2 : tie.Need-returns-2
-returns-2 c = rw (toZ-ofZ (c .before .before .fits .n)) at (c .lowered .ensures)
+returns-2 c = let start : tie.Start = search in rw (toZ-ofZ (start .fits .n)) at (c .lowered .ensures)
 
 pub reduced-spec : {M : Type 1} → statement M
 reduced-spec = tie.close (tie.spec whole-requires lowered-requires returns returns-2)

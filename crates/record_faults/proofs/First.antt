@@ -1,17 +1,17 @@
--- A walk up to the first index that is not sound.
+-- Going on up to the first index that is not sound.
 -- Main results: `passed-none`, `passed-more`, `first-found`, `first-none`. Assume nothing.
 use mathlib.Core.Path.{_≡_, ap, _∙_}
 use mathlib.Core.Bool.{Bool, true, false}
 use Prim.Native.Nat.{ℕ, _+_, _≤_, _<_}
 use native.Mathlib.Omega.{arith}
 use native.Mathlib.Decide.{decLt}
-use Rattle.record_faults.specs.Walks.{Passed, First}
+use Rattle.record_faults.specs.Contract.{AllSound, First}
 
 module _ {from end : ℕ} {sound : ℕ → Bool} where
-  pub passed-none : from ≤ end → Passed from end sound from
+  pub passed-none : from ≤ end → AllSound from end sound from
   passed-none h = record { least = omega arith; most = h; before = λ k l u. absurd (omega arith) }
 
-  pub passed-more : {t : ℕ} → Passed from end sound t → t < end → sound t ≡ true → Passed from end sound (t + 1)
+  pub passed-more : {t : ℕ} → AllSound from end sound t → t < end → sound t ≡ true → AllSound from end sound (t + 1)
   passed-more {t} p h s = record { least = omega arith; most = omega arith; before = λ k l u. go k l u (decLt k t) }
     where
       go : (k : ℕ) → from ≤ k → k < t + 1 → Dec (k < t) → sound k ≡ true
@@ -20,8 +20,10 @@ module _ {from end : ℕ} {sound : ℕ → Bool} where
           let here : k ≡ t = omega arith in
           ap sound here ∙ s
 
-  pub first-found : {t : ℕ} → Passed from end sound t → sound t ≡ false → First from end sound t
+  -- The first that is not sound is found,
+  pub first-found : {t : ℕ} → AllSound from end sound t → sound t ≡ false → First from end sound t
   first-found p s = record { passed = p; there = λ h. s }
 
-  pub first-none : {t : ℕ} → Passed from end sound t → end ≤ t → First from end sound t
+  -- or there is none.
+  pub first-none : {t : ℕ} → AllSound from end sound t → end ≤ t → First from end sound t
   first-none p h = record { passed = p; there = λ u. absurd (omega arith) }

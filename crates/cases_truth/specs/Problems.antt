@@ -24,9 +24,9 @@ unfoldable pub problemA : Problem
 problemA =
     problem
     (Variable 0
-    ∷ Gain (record { num = negsuc 0; den = pos 8 }) 0
+    ∷ Gain (record { mantissa = negsuc 0; shift = 3 }) 0
     ∷ Lookup1 7 1
-    ∷ Constant (record { num = pos 3; den = pos 2 })
+    ∷ Constant (record { mantissa = pos 3; shift = 1 })
     ∷ [])
     (pair 1 2)
     (pair 2 3 ∷ [])
@@ -51,7 +51,7 @@ problemD =
     problem
     (Variable 0
     ∷ Variable 0
-    ∷ Constant (record { num = pos 1; den = pos 1 })
+    ∷ Constant (record { mantissa = pos 1; shift = 0 })
     ∷ Difference 0 2
     ∷ Lookup1 7 3
     ∷ Difference 4 2

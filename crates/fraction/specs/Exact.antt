@@ -1,12 +1,13 @@
 -- Exact fractions in lowest terms, and the operations on them.
--- Main definitions: `ℚ`, `frac`, `value`, `_+ℚ_`, `_-ℚ_`, `_*ℚ_`, `_÷ℚ_`, `eqℚ`. Assumes nothing.
+-- Main definitions: `ℚ`, `frac`, `worth`, `value`, `_+ℚ_`, `_-ℚ_`, `_*ℚ_`, `_÷ℚ_`, `eqℚ`. Assumes nothing.
 use mathlib.Core.Path.{_≡_, ap, _∙_}
 use mathlib.Core.Bool.{Bool, false, _&&_}
-use Prim.Native.Nat.{ℕ, zero, suc, _*_, _/_, _<_}
+use Prim.Native.Nat.{ℕ, zero, suc, _*_, _/_, _^_, _<_}
 use native.Mathlib.Nat.{zero-lt-suc}
 use lib.IntN.{ℤ, pos, negsuc, negℤ, natAbs, _+ℤ_, _*ℤ_}
 use lib.Dec.{eqb}
 use Rattle.fraction.specs.declared.Fraction.{Fraction}
+use Rattle.fraction.specs.declared.Scaled.{Scaled}
 use Rattle.whole.specs.Gcd.{gcd}
 use Rattle.whole.specs.Signed.{signed}
 use Rattle.whole.proofs.Divisors.{gcd-lowered, gcd-one, gcd-positive, lowered-positive}
@@ -41,6 +42,10 @@ frac n (suc d) =
       positive = lowered-positive (natAbs n) (zero-lt-suc d);
       lowest = ap (λ size. gcd size (suc d / common)) (size-signed n (natAbs n / common)) ∙ gcd-lowered (natAbs n) (suc d) (gcd-positive (natAbs n) (zero-lt-suc d));
     }
+
+-- 01, The problem record: "mantissa / 2^shift"
+unfoldable pub worth : Scaled → ℚ
+worth s = frac (s .mantissa) (2 ^ s .shift)
 
 -- what a fraction struct stands for: numerator over denominator, in lowest terms
 unfoldable pub value : Fraction → ℚ

@@ -4,12 +4,15 @@ pub mod reduce;
 use crate::reduce::lowest;
 use crate::reduce::made;
 use fraction::Fraction;
+use fraction::Scaled;
 use whole_signed::times;
 use whole_signed::wide;
 use whole_size::size;
 use whole_size::size_wide;
-ghost use Rattle.fraction.specs.Exact.{value};
-ghost use Rattle.fraction_reduce.specs.Contract.{Raw, Bottoms};
+ghost use mathlib.Core.Path.{_≡_};
+ghost use Prim.Native.Nat.{_<_, _^_};
+ghost use Rattle.fraction.specs.Exact.{worth};
+ghost use Rattle.fraction_reduce.specs.Contract.{InRecord, Bottoms};
 ghost use Rattle.fraction_reduce.specs.Values.{Good, Stands};
 
 // What an operation answers: the fraction made, or the number of its refusal.
@@ -27,11 +30,18 @@ pub fn bottoms(a: Fraction, b: Fraction) -> u64
     size_wide(times(a.den, b.den))
 }
 
-// A fraction as a record has it, in lowest terms: never refused, since neither number gets larger.
-pub fn lowered(f: Fraction) -> Fraction
-    requires { ⌜ Raw f ⌝ }
-    ensures { λ r. ⌜ Stands r (value f) ⌝ }
+fn power(shift: u8) -> u64
+    requires { ⌜ shift < 16 ⌝ }
+    ensures { λ r. ⌜ r ≡ 2 ^ shift ⌝ }
 {
-    let terms = lowest(size(f.num), size(f.den));
-    made(wide(f.num), terms.top, terms.bottom)
+    1u64 << (shift as u32)
+}
+
+// A record's fraction in lowest terms: never refused, since neither number gets larger.
+pub fn lowered(s: Scaled) -> Fraction
+    requires { ⌜ InRecord s ⌝ }
+    ensures { λ r. ⌜ Stands r (worth s) ⌝ }
+{
+    let terms = lowest(size(s.mantissa), power(s.shift));
+    made(wide(s.mantissa), terms.top, terms.bottom)
 }

@@ -10,7 +10,7 @@ use native.Mathlib.Omega.{arith}
 use lib.ListN.{length, length-append, List·getD-append}
 use lib.Seq.{append-snoc, getD-append-seam}
 use lib.Dec.{eqb}
-use Rattle.fraction.specs.Exact.{ℚ, zeroℚ, oneℚ, value, _*ℚ_}
+use Rattle.fraction.specs.Exact.{ℚ, zeroℚ, oneℚ, worth, _*ℚ_}
 use Rattle.fraction.specs.Made.{made}
 use Rattle.fraction.proofs.Bounded.{plus-made, minus-made, times-made}
 use Rattle.fraction.proofs.Field.{times-one, times-zero}
@@ -46,7 +46,7 @@ constant-column q c = by (eqb c constant)
 pub built-column : (table : Table) (own : ℕ) (kind : Kind) (c : ℕ) (q : ℚ) → builtColumn table own kind c ≡ made q → q ≡ lin kind (λ i. cell table i c) (alone constant oneℚ c) (alone own oneℚ c)
 unfolding builtColumn lin
 built-column table own (Variable symbol) c q h = cc
-built-column table own (Constant held) c q h = cc (constant-column (value held) c)
+built-column table own (Constant held) c q h = cc (constant-column (worth held) c)
 built-column table own (Gain factor input) c q h = times-made _ _ q h .0
 built-column table own (Sum left right) c q h = plus-made _ _ q h .0
 built-column table own (Difference left right) c q h = minus-made _ _ q h .0

@@ -5,7 +5,7 @@ use mathlib.Core.Bool.{true, false, true≢false, false≢true}
 use mathlib.Core.List.{[], List·Memᴰ, List·Memᴰ·head, List·Memᴰ·tail}
 use Prim.Native.Nat.{ℕ}
 use Rattle.whole.proofs.Solver.{ring}
-use Rattle.fraction.specs.Exact.{ℚ, zeroℚ, value, _+ℚ_, _-ℚ_, _*ℚ_}
+use Rattle.fraction.specs.Exact.{ℚ, zeroℚ, worth, _+ℚ_, _-ℚ_, _*ℚ_}
 use Rattle.fraction.proofs.Field.{ℚ-ring, readsℚ, times-zero}
 use Rattle.laws_linear.specs.Form.{Form, eval, foldForm}
 use Rattle.laws_linear.proofs.Eval.{eval-plus, eval-minus, eval-times}
@@ -21,7 +21,7 @@ pub lin-congruent : (kind : Kind) (a b : ℕ → ℚ) (unit own : ℚ) → ((i :
 unfolding lin allInputs
 lin-congruent (Variable symbol) a b unit own same = refl
 lin-congruent (Constant held) a b unit own same = refl
-lin-congruent (Gain factor input) a b unit own same = ap (λ x. value factor *ℚ x) (same input (List·Memᴰ·head refl))
+lin-congruent (Gain factor input) a b unit own same = ap (λ x. worth factor *ℚ x) (same input (List·Memᴰ·head refl))
 lin-congruent (Sum left right) a b unit own same = ap₂ _+ℚ_ (same left (List·Memᴰ·head refl)) (same right (List·Memᴰ·tail (List·Memᴰ·head refl)))
 lin-congruent (Difference left right) a b unit own same = ap₂ _-ℚ_ (same left (List·Memᴰ·head refl)) (same right (List·Memᴰ·tail (List·Memᴰ·head refl)))
 lin-congruent (Lookup1 symbol input) a b unit own same = refl
@@ -62,8 +62,8 @@ pub record Linear (L : Form → ℚ) : Type 0 where
 pub lin-commutes : {L : Form → ℚ} → Linear L → (kind : Kind) (rows : ℕ → Form) (unit own : Form) → L (λ c. lin kind (λ i. rows i c) (unit c) (own c)) ≡ lin kind (λ i. L (rows i)) (L unit) (L own)
 unfolding lin
 lin-commutes l (Variable symbol) rows unit own = refl
-lin-commutes l (Constant held) rows unit own = l .times (value held) unit
-lin-commutes l (Gain factor input) rows unit own = l .times (value factor) (rows input)
+lin-commutes l (Constant held) rows unit own = l .times (worth held) unit
+lin-commutes l (Gain factor input) rows unit own = l .times (worth factor) (rows input)
 lin-commutes l (Sum left right) rows unit own = l .plus (rows left) (rows right)
 lin-commutes l (Difference left right) rows unit own = l .minus (rows left) (rows right)
 lin-commutes l (Lookup1 symbol input) rows unit own = refl

@@ -2,10 +2,9 @@
 -- Main results: `place-of`, `decoded-sound`. Assume nothing.
 use mathlib.Core.Path.{_≡_, refl, sym, ap, _∙_, subst}
 use mathlib.Core.List.{List, [], _∷_, List·Memᴰ, List·Memᴰ·head, List·Memᴰ·tail, List·Memᴰ·not-nil}
-use Prim.Native.Nat.{ℕ, suc, _+_, _-_, _^_, _<_}
+use Prim.Native.Nat.{ℕ, suc, _+_, _-_, _<_}
 use native.Mathlib.Omega.{arith}
 use lib.ListN.{length, getD}
-use lib.Pow.{pow-pos}
 use Rattle.fraction.specs.Made.{made}
 use Rattle.rules_problem.specs.declared.Kind.{Kind}
 use Rattle.rules_problem.specs.declared.Kind.the-variants.{Variable}
@@ -13,12 +12,12 @@ use Rattle.rules_problem.specs.declared.Term.{Term}
 use Rattle.rules_problem.specs.Bits.{field}
 use Rattle.rules_problem.specs.Lookup.{kindAt}
 use Rattle.rules_problem.specs.Problem.{Pair, Problem, decoded}
-use Rattle.rules_problem.specs.Record.{Fields, scaled}
+use Rattle.rules_problem.specs.Record.{Fields}
 use Rattle.rules_problem.specs.Pairs.{pairThere}
 use Rattle.rules_problem.proofs.Holding.{Holding, SidesOf, holding, sides-made, terms-count, term-there, pairs-count, pair-there, goal-there}
 use Rattle.rules_problem.proofs.Recorded.{EachBelow, Recorded, variable, constant, gain, sum, difference, lookup1, lookup2, lookup3, term-recorded}
 use Rattle.laws_valuation.specs.Sound.{Sound}
-use Rattle.laws_valuation.specs.Written.{Positive, PositiveIn, allInputs}
+use Rattle.laws_valuation.specs.Written.{allInputs}
 
 each-member : (own : ℕ) (list : List ℕ) → EachBelow own list → (i : ℕ) → List·Memᴰ i list → i < own
 unfolding EachBelow
@@ -26,24 +25,20 @@ each-member own [] below i m = absurd (List·Memᴰ·not-nil m)
 each-member own (x ∷ list) below i (List·Memᴰ·head same) = subst (λ y. y < own) (sym same) (below .0)
 each-member own (x ∷ list) below i (List·Memᴰ·tail later) = each-member own list (below .1) i later
 
-scaled-positive : (f : Fields) → Positive (scaled f)
-unfolding scaled
-scaled-positive f = record { below = 2 ^ f .shift; written = refl; above = pow-pos (f .shift) }
-
 -- What the test of a record grants the kind that it finds.
 abbrev Granted : (own : ℕ) → Kind → Type 0
-Granted own kind = PositiveIn kind × ((i : ℕ) → List·Memᴰ i (allInputs kind) → i < own)
+Granted own kind = (i : ℕ) → List·Memᴰ i (allInputs kind) → i < own
 
 granted-kind : {own : ℕ} {f : Fields} {kind : Kind} → Recorded own f kind → Granted own kind
-unfolding EachBelow PositiveIn allInputs
-granted-kind {own} variable = (tt, each-member own _ tt)
-granted-kind {own} {f} constant = (scaled-positive f, each-member own _ tt)
-granted-kind {own} {f} (gain below) = (scaled-positive f, each-member own _ below)
-granted-kind {own} (sum below) = (tt, each-member own _ below)
-granted-kind {own} (difference below) = (tt, each-member own _ below)
-granted-kind {own} (lookup1 below) = (tt, each-member own _ below)
-granted-kind {own} (lookup2 below) = (tt, each-member own _ below)
-granted-kind {own} (lookup3 below) = (tt, each-member own _ below)
+unfolding EachBelow allInputs
+granted-kind {own} variable = each-member own _ tt
+granted-kind {own} constant = each-member own _ tt
+granted-kind {own} (gain below) = each-member own _ below
+granted-kind {own} (sum below) = each-member own _ below
+granted-kind {own} (difference below) = each-member own _ below
+granted-kind {own} (lookup1 below) = each-member own _ below
+granted-kind {own} (lookup2 below) = each-member own _ below
+granted-kind {own} (lookup3 below) = each-member own _ below
 
 -- a member of a list stands at some place in it
 pub place-of : {A : Type 0} (d : A) {a : A} {list : List A} → List·Memᴰ a list → (i : ℕ) × (i < length list) × (getD list i d ≡ a)
@@ -56,7 +51,7 @@ unfolding kindAt pairThere
 decoded-sound bytes problem h = record {
   least = omega (arith, sized, parts .some-term);
   most = omega (arith, sized, parts .few-terms);
-  written = record { positive = λ t h. granted t h .0; earlier = λ t h. granted t h .1 };
+  written = record { earlier = granted };
   goal = omega (arith, sized, goal-there bytes problem h .left-below, goal-there bytes problem h .right-below);
   pairs = λ pair m. omega (arith, sized, inside pair m .1 .left-below, inside pair m .1 .right-below);
 }

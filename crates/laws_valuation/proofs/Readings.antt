@@ -1,17 +1,18 @@
 -- Readings and valuations say the same of the terms: whole numbers over one divisor, and exact fractions.
 -- Main results: `valueIn-equal`, `reading-valued` (R1), `valuation-read`, `valuation-read-equal` (R2). Assume nothing.
-use mathlib.Core.Path.{_≡_, refl, sym, ap, ap₂, _∙_, subst}
+use mathlib.Core.Path.{_≡_, refl, sym, ap, ap₂, _∙_}
 use mathlib.Core.Logic.{_↔_}
 use mathlib.Core.List.{List, [], _∷_, map, List·Memᴰ, List·Memᴰ·head, List·Memᴰ·tail, List·Memᴰ·not-nil}
-use Prim.Native.Nat.{ℕ, zero, suc, _*_, _/_, _<_, _∣_}
+use Prim.Native.Nat.{ℕ, zero, suc, _*_, _/_, _^_, _<_, _∣_}
 use native.Mathlib.Decide.{ℕ-discrete}
 use native.Mathlib.Nat.{mul-pos, dvd-mul-left, dvd-mul-right-of-dvd, div-mul-cancel}
 use native.Mathlib.Omega.{arith}
 use lib.ListN.{length}
-use lib.IntN.{ℤ, pos, natAbs, _*ℤ_}
+use lib.Pow.{pow-pos}
+use lib.IntN.{ℤ, pos, _*ℤ_}
 use Rattle.whole.proofs.Ring.{mul-assocℤ}
-use Rattle.fraction.specs.declared.Fraction.{Fraction}
-use Rattle.fraction.specs.Exact.{ℚ, oneℚ, frac, value, _*ℚ_}
+use Rattle.fraction.specs.declared.Scaled.{Scaled}
+use Rattle.fraction.specs.Exact.{ℚ, oneℚ, worth, _*ℚ_}
 use Rattle.fraction.proofs.Common.{equal-iff, equal-over, sum-over, difference-over, multiple-over}
 use Rattle.fraction.proofs.Cross.{Is, Is-unique, frac-is}
 use Rattle.fraction.proofs.Field.{times-one}
@@ -22,28 +23,24 @@ use Rattle.rules_problem.specs.Lookup.{callOf, inputsOf, kindAt}
 use Rattle.rules_reading.specs.Reading.{Obeys, Reading}
 use Rattle.laws_valuation.specs.Valuation.{lin, Valuation}
 use Rattle.laws_valuation.specs.Values.{valueIn}
-use Rattle.laws_valuation.specs.Written.{Positive, PositiveIn, allInputs, Written}
+use Rattle.laws_valuation.specs.Written.{allInputs, Written}
 
--- The value of a fraction struct is its numerator over its denominator.
-pub value-is : (held : Fraction) (h : Positive held) → Is (value held) (held .num) (h .below)
-unfolding value
-value-is held h = subst (λ d. Is (frac (held .num) d) (held .num) (h .below)) (sym (ap natAbs (h .written))) (frac-is (held .num) (h .above))
+-- A record's fraction is its mantissa over 2^shift.
+pub worth-is : (held : Scaled) → Is (worth held) (held .mantissa) (2 ^ held .shift)
+unfolding worth
+worth-is held = frac-is (held .mantissa) (pow-pos (held .shift))
 
 -- Numbers over one divisor obey a term exactly if the fractions that they are do.
-obeys-iff : (number : ℕ → ℤ) (D : ℕ) (v : ℕ → ℚ) (own : ℕ) (kind : Kind) → PositiveIn kind → Is (v own) (number own) D → ((i : ℕ) → List·Memᴰ i (allInputs kind) → Is (v i) (number i) D) → Obeys number D (number own) kind ↔ (v own ≡ lin kind v oneℚ (v own))
-unfolding PositiveIn allInputs Obeys lin
-obeys-iff number D v own (Variable symbol) h self over = (λ obeys. refl, λ same. tt)
-obeys-iff number D v own (Constant held) h self over =
-    subst (λ d. (number own *ℤ d ≡ held .num *ℤ pos D) ↔ (v own ≡ value held *ℚ oneℚ)) (sym (h .written))
-    (rw times-one (equal-iff self (value-is held h)))
-obeys-iff number D v own (Gain factor input) h self over =
-    subst (λ d. (number own *ℤ d ≡ factor .num *ℤ number input) ↔ (v own ≡ value factor *ℚ v input)) (sym (h .written))
-    (multiple-over self (value-is factor h) (over input (List·Memᴰ·head refl)))
-obeys-iff number D v own (Sum left right) h self over = equal-over self (sum-over (over left (List·Memᴰ·head refl)) (over right (List·Memᴰ·tail (List·Memᴰ·head refl))))
-obeys-iff number D v own (Difference left right) h self over = equal-over self (difference-over (over left (List·Memᴰ·head refl)) (over right (List·Memᴰ·tail (List·Memᴰ·head refl))))
-obeys-iff number D v own (Lookup1 symbol input) h self over = (λ obeys. refl, λ same. tt)
-obeys-iff number D v own (Lookup2 symbol first second) h self over = (λ obeys. refl, λ same. tt)
-obeys-iff number D v own (Lookup3 symbol first second third) h self over = (λ obeys. refl, λ same. tt)
+obeys-iff : (number : ℕ → ℤ) (D : ℕ) (v : ℕ → ℚ) (own : ℕ) (kind : Kind) → Is (v own) (number own) D → ((i : ℕ) → List·Memᴰ i (allInputs kind) → Is (v i) (number i) D) → Obeys number D (number own) kind ↔ (v own ≡ lin kind v oneℚ (v own))
+unfolding allInputs Obeys lin
+obeys-iff number D v own (Variable symbol) self over = (λ obeys. refl, λ same. tt)
+obeys-iff number D v own (Constant held) self over = rw times-one (equal-iff self (worth-is held))
+obeys-iff number D v own (Gain factor input) self over = multiple-over self (worth-is factor) (over input (List·Memᴰ·head refl))
+obeys-iff number D v own (Sum left right) self over = equal-over self (sum-over (over left (List·Memᴰ·head refl)) (over right (List·Memᴰ·tail (List·Memᴰ·head refl))))
+obeys-iff number D v own (Difference left right) self over = equal-over self (difference-over (over left (List·Memᴰ·head refl)) (over right (List·Memᴰ·tail (List·Memᴰ·head refl))))
+obeys-iff number D v own (Lookup1 symbol input) self over = (λ obeys. refl, λ same. tt)
+obeys-iff number D v own (Lookup2 symbol first second) self over = (λ obeys. refl, λ same. tt)
+obeys-iff number D v own (Lookup3 symbol first second third) self over = (λ obeys. refl, λ same. tt)
 
 -- The inputs of a lookup are among its inputs as a term.
 pub lookup-inputs : (kind : Kind) (i : ℕ) → List·Memᴰ i (inputsOf kind) → List·Memᴰ i (allInputs kind)
@@ -85,7 +82,7 @@ valueIn-equal r i j = equal-over (valueIn-is r i) (valueIn-is r j)
 -- R1: the values of a reading are a valuation.
 pub reading-valued : (terms : List Term) → Written terms → (r : Reading terms) → Valuation terms (valueIn r)
 reading-valued terms written r = record {
-  obeys = λ t h. obeys-iff (r .number) (r .divisor) (valueIn r) t (kindAt terms t) (written .positive t h) (valueIn-is r t) (λ i k. valueIn-is r i) .0 (r .obeys t h);
+  obeys = λ t h. obeys-iff (r .number) (r .divisor) (valueIn r) t (kindAt terms t) (valueIn-is r t) (λ i k. valueIn-is r i) .0 (r .obeys t h);
   congruent = λ i j h k same inputs.
       valueIn-equal r i j .0 (r .congruent i j h k same
       (inputs-equal terms written (valueIn r) (r .number) (λ a b l m. valueIn-equal r a b .1) i j (omega arith) k inputs));
@@ -135,7 +132,7 @@ valuation-read terms written v valued = (reading, λ t h. Is-unique (valueIn-is 
       number = number;
       divisor = D;
       positive = denominators-positive (length terms) v;
-      obeys = λ t h. obeys-iff number D v t (kindAt terms t) (written .positive t h) (over t h) (λ i k. over i (omega (arith, written .earlier t h i k))) .1 (valued .obeys t h);
+      obeys = λ t h. obeys-iff number D v t (kindAt terms t) (over t h) (λ i k. over i (omega (arith, written .earlier t h i k))) .1 (valued .obeys t h);
       congruent = λ i j h k same inputs.
           equal i j (omega arith) k .1 (valued .congruent i j h k same
           (inputs-equal terms written number v (λ a b l m. equal a b l m .0) i j (omega arith) k inputs));

@@ -5,7 +5,7 @@ use mathlib.Core.List.{List, map}
 use Prim.Native.Nat.{ℕ, _<_}
 use lib.ListN.{length}
 use lib.Dec.{T}
-use Rattle.fraction.specs.Exact.{ℚ, oneℚ, value, _+ℚ_, _-ℚ_, _*ℚ_}
+use Rattle.fraction.specs.Exact.{ℚ, oneℚ, worth, _+ℚ_, _-ℚ_, _*ℚ_}
 use Rattle.rules_problem.specs.declared.Kind.{Kind}
 use Rattle.rules_problem.specs.declared.Kind.the-variants.{Variable, Constant, Gain, Sum, Difference, Lookup1, Lookup2, Lookup3}
 use Rattle.rules_problem.specs.declared.Term.{Term}
@@ -15,8 +15,8 @@ use Rattle.rules_problem.specs.Lookup.{alike, inputsOf, kindAt}
 -- term itself counts, which an unknown is free to choose. Values use it with unit 1, column c of rows with the unit's column c.
 unfoldable pub lin : Kind → (of : ℕ → ℚ) → (unit own : ℚ) → ℚ
 lin (Variable symbol) of unit own = own
-lin (Constant held) of unit own = value held *ℚ unit
-lin (Gain factor input) of unit own = value factor *ℚ of input
+lin (Constant held) of unit own = worth held *ℚ unit
+lin (Gain factor input) of unit own = worth factor *ℚ of input
 lin (Sum left right) of unit own = of left +ℚ of right
 lin (Difference left right) of unit own = of left -ℚ of right
 lin (Lookup1 symbol input) of unit own = own

@@ -1,13 +1,12 @@
 // The term that a record holds, or that the record is faulty.
-use fraction::Fraction;
+use fraction::Scaled;
 use record_fields::Fields;
 use record_fields::read_fields;
 use rules_problem::Kind;
 use rules_problem::Term;
 ghost use mathlib.Core.Path.{_≡_};
 ghost use mathlib.Core.List.{_∷_, []};
-ghost use Prim.Native.Nat.{ℕ, _<_, _^_};
-ghost use lib.IntN.{pos};
+ghost use Prim.Native.Nat.{ℕ};
 ghost use Rattle.rules_problem.specs.Bits.{signed16};
 ghost use Rattle.rules_problem.specs.Record.{scaled, kindOf};
 ghost use Rattle.record_fields.specs.Contract.{fieldsOf};
@@ -31,21 +30,13 @@ fn with_sign(mantissa: u16) -> i32
     }
 }
 
-fn power(shift: u8) -> i32
-    requires { ⌜ shift < 16 ⌝ }
-    ensures { λ r. ⌜ r ≡ pos (2 ^ shift) ⌝ }
-{
-    (1u32 << (shift as u32)) as i32
-}
-
-// Mantissa over 2^shift, as the record has it.
-fn fraction_of(f: Fields) -> Fraction
-    requires { ⌜ f .shift < 16 ⌝ }
+// 01: "mantissa / 2^shift"
+fn scaled_of(f: Fields) -> Scaled
     ensures { λ r. ⌜ r ≡ scaled (fieldsOf f) ⌝ }
 {
-    Fraction {
-        num: with_sign(f.mantissa),
-        den: power(f.shift),
+    Scaled {
+        mantissa: with_sign(f.mantissa),
+        shift: f.shift,
     }
 }
 
@@ -129,17 +120,16 @@ fn judge(own: usize, f: Fields) -> bool
 
 // The kind that the fields of a record say, if it is not faulty.
 fn kind_of(f: Fields) -> Kind
-    requires { ⌜ f .shift < 16 ⌝ }
     ensures { λ r. ⌜ ((own : ℕ) → HoldsTerm (soundIf (kindOf own (fieldsOf f))) (record { kind = r })) ⌝ }
 {
     let kind = f.kind;
     match kind {
         1 => Kind::Variable { symbol: f.symbol },
         2 => Kind::Constant {
-            value: fraction_of(f),
+            value: scaled_of(f),
         },
         3 => Kind::Gain {
-            factor: fraction_of(f),
+            factor: scaled_of(f),
             input: f.input1 as usize,
         },
         4 => Kind::Sum {

@@ -49,12 +49,12 @@ refusal : (number place : ℕ) → Made Refusal Problem
 refusal number place = stopped (record { number = number; place = place })
 
 -- Case A: a variable, -1/8 of it, a lookup of that, and the constant 3/2; the goal is 1 = 2, the assumption 2 = 3.
-case-a-decoded : found 38 0x04010102_1000000000000000_300000000FFFF300_6070100000000000_2000000000003100_0203 ≡ made (record { terms = record { kind = Variable 0 } ∷ record { kind = Gain (record { num = negsuc 0; den = pos 8 }) 0 } ∷ record { kind = Lookup1 7 1 } ∷ record { kind = Constant (record { num = pos 3; den = pos 2 }) } ∷ []; goal = record { left = 1; right = 2 }; pairs = record { left = 2; right = 3 } ∷ [] })
+case-a-decoded : found 38 0x04010102_1000000000000000_300000000FFFF300_6070100000000000_2000000000003100_0203 ≡ made (record { terms = record { kind = Variable 0 } ∷ record { kind = Gain (record { mantissa = negsuc 0; shift = 3 }) 0 } ∷ record { kind = Lookup1 7 1 } ∷ record { kind = Constant (record { mantissa = pos 3; shift = 1 }) } ∷ []; goal = record { left = 1; right = 2 }; pairs = record { left = 2; right = 3 } ∷ [] })
 unfolding found
 case-a-decoded = refl
 
 -- The least mantissa is -32768, as case K has it.
-least-mantissa : found 12 0x01000000_2000000008000f00 ≡ made (record { terms = record { kind = Constant (record { num = negsuc 32767; den = pos 32768 }) } ∷ []; goal = record { left = 0; right = 0 }; pairs = [] })
+least-mantissa : found 12 0x01000000_2000000008000f00 ≡ made (record { terms = record { kind = Constant (record { mantissa = negsuc 32767; shift = 15 }) } ∷ []; goal = record { left = 0; right = 0 }; pairs = [] })
 unfolding found
 least-mantissa = refl
 

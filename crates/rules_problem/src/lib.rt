@@ -1,5 +1,5 @@
 // The terms of a problem, and the sizes of its table.
-use fraction::Fraction;
+use fraction::Scaled;
 
 // 01, The problem record: the most terms, and the most pairs.
 pub const TERMS: usize = 64;
@@ -17,10 +17,10 @@ pub enum Kind {
         symbol: u8,
     },
     Constant {
-        value: Fraction,
+        value: Scaled,
     },
     Gain {
-        factor: Fraction,
+        factor: Scaled,
         input: usize,
     },
     Sum {

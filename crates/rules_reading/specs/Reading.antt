@@ -2,7 +2,7 @@
 -- Main definitions: `Obeys`, `Reading`, `Meets`. Assumes nothing.
 use mathlib.Core.Path.{_≡_}
 use mathlib.Core.List.{List, List·Memᴰ, map}
-use Prim.Native.Nat.{ℕ, _<_}
+use Prim.Native.Nat.{ℕ, _^_, _<_}
 use lib.ListN.{length}
 use lib.IntN.{ℤ, pos, _+ℤ_, _-ℤ_, _*ℤ_}
 use lib.Dec.{T}
@@ -13,11 +13,11 @@ use Rattle.rules_problem.specs.Lookup.{alike, inputsOf, kindAt}
 use Rattle.rules_problem.specs.Problem.{Pair}
 
 -- 01, Readings: "a constant's number times 2^shift is mantissa times D; a gain's number times 2^shift is mantissa times its
--- input's number; sums and differences add up". The struct of a constant or gain is mantissa over 2^shift.
+-- input's number; sums and differences add up"
 unfoldable pub Obeys : (number : ℕ → ℤ) (D : ℕ) (own : ℤ) → Kind → Type 0
 Obeys number D own (Variable symbol) = Unit
-Obeys number D own (Constant value) = own *ℤ value .den ≡ value .num *ℤ pos D
-Obeys number D own (Gain factor input) = own *ℤ factor .den ≡ factor .num *ℤ number input
+Obeys number D own (Constant value) = own *ℤ pos (2 ^ value .shift) ≡ value .mantissa *ℤ pos D
+Obeys number D own (Gain factor input) = own *ℤ pos (2 ^ factor .shift) ≡ factor .mantissa *ℤ number input
 Obeys number D own (Sum left right) = own ≡ number left +ℤ number right
 Obeys number D own (Difference left right) = own ≡ number left -ℤ number right
 Obeys number D own (Lookup1 symbol input) = Unit

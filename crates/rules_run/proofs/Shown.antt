@@ -49,7 +49,7 @@ unfolding answer problem x f equal
 lookups-compare-by-row = refl
 
 -- Case E: f(v) = v, f(u) = u - 1, u = v cannot all be met.
-lookups-merge-by-folded-rows : answer (problem 0 0 (x ∷ x ∷ f 0 ∷ f 1 ∷ Constant (record { num = pos 1; den = pos 1 }) ∷ Difference 1 4 ∷ []) (equal 2 0 ∷ equal 3 5 ∷ equal 1 0 ∷ [])) ≡ Contradictory 3
+lookups-merge-by-folded-rows : answer (problem 0 0 (x ∷ x ∷ f 0 ∷ f 1 ∷ Constant (record { mantissa = pos 1; shift = 0 }) ∷ Difference 1 4 ∷ []) (equal 2 0 ∷ equal 3 5 ∷ equal 1 0 ∷ [])) ≡ Contradictory 3
 unfolding answer problem x f equal
 lookups-merge-by-folded-rows = refl
 

@@ -5,7 +5,7 @@ use mathlib.Core.List.{List, [], _∷_, _++_}
 use Prim.Native.Nat.{ℕ}
 use lib.ListN.{length}
 use lib.Dec.{eqb}
-use Rattle.fraction.specs.Exact.{ℚ, zeroℚ, oneℚ, value}
+use Rattle.fraction.specs.Exact.{ℚ, zeroℚ, oneℚ, worth}
 use Rattle.fraction.specs.Limits.{plus, minus, times}
 use Rattle.fraction.specs.Made.{Made, made, _>>=_}
 use Rattle.rules_problem.specs.declared.Kind.{Kind}
@@ -21,8 +21,8 @@ alone only q c = cond (eqb c only) q zeroℚ
 -- sums and differences work by column." "Unknowns are variables and lookups."
 unfoldable pub builtColumn : Table → (own : ℕ) → Kind → (c : ℕ) → Made ℕ ℚ
 builtColumn table own (Variable symbol) c = made (alone own oneℚ c)
-builtColumn table own (Constant held) c = made (alone constant (value held) c)
-builtColumn table own (Gain factor input) c = times (value factor) (cell table input c)
+builtColumn table own (Constant held) c = made (alone constant (worth held) c)
+builtColumn table own (Gain factor input) c = times (worth factor) (cell table input c)
 builtColumn table own (Sum left right) c = plus (cell table left c) (cell table right c)
 builtColumn table own (Difference left right) c = minus (cell table left c) (cell table right c)
 builtColumn table own (Lookup1 symbol input) c = made (alone own oneℚ c)

@@ -10,7 +10,7 @@ use Rattle.rules_run.specs.Row.{TERMS, constant, COLUMNS, column, rowOf,
 use Rattle.rules_problem.specs.Lookup.{callOf, inputsOf, sameFunction, alike, kindAt}
 use Rattle.fraction.specs.Made.{Made, _>>=_, tab, because}
 use Rattle.fraction.specs.Limits.{limit, within, tested, plus, minus, times, over}
-use Rattle.fraction.specs.Exact.{whole, zeroℚ, oneℚ, frac, value, _+ℚ_, negℚ, _-ℚ_, _*ℚ_, inverse, _÷ℚ_, eqℤ, eqℚ}
+use Rattle.fraction.specs.Exact.{whole, zeroℚ, oneℚ, frac, worth, _+ℚ_, negℚ, _-ℚ_, _*ℚ_, inverse, _÷ℚ_, eqℤ, eqℚ}
 use Rattle.answer.specs.Refusals.{RANGE}
 use Rattle.whole.specs.Gcd.{gcd, euclid}
 use Rattle.whole.specs.Signed.{signed}
@@ -65,7 +65,7 @@ unfolding
     minus
     times
     over
-    value
+    worth
     whole
     zeroℚ
     oneℚ

@@ -10,11 +10,11 @@ use borrow.Author.Needs.{needs}
 use Rattle.record_term.proofs.kind_of.Statement.{statement}
 use Rattle.record_term.proofs.kind_of.Tie as tie
 
-fraction-of-requires : tie.Need-fraction-of-requires
-fraction-of-requires c κs = search needs
+scaled-of-requires : tie.Need-scaled-of-requires
+scaled-of-requires c κs = search needs
 
-fraction-of-requires-2 : tie.Need-fraction-of-requires-2
-fraction-of-requires-2 c κs = search needs
+scaled-of-requires-2 : tie.Need-scaled-of-requires-2
+scaled-of-requires-2 c κs = search needs
 
 cast-t6 : tie.Need-cast-t6
 cast-t6 c = search needs
@@ -55,11 +55,11 @@ returns c own = rw (c .match .keys1) (holds-unless _ _ _ _)
 
 returns-2 : tie.Need-returns-2
 unfolding fieldsOf kindOf
-returns-2 c own = let row : tie.At-match-keys2 = search in rw (row .match .keys2, c .fraction-of .ensures) (holds-unless _ _ _ _)
+returns-2 c own = let row : tie.At-match-keys2 = search in rw (row .match .keys2, c .scaled-of .ensures) (holds-unless _ _ _ _)
 
 returns-3 : tie.Need-returns-3
 unfolding fieldsOf kindOf
-returns-3 c own = let row : tie.At-match-keys3 = search in let factor : tie.After-fraction-of2 = search in rw (row .match .keys3, factor .fraction-of2 .ensures) (holds-unless _ _ _ _)
+returns-3 c own = let row : tie.At-match-keys3 = search in let factor : tie.After-scaled-of2 = search in rw (row .match .keys3, factor .scaled-of2 .ensures) (holds-unless _ _ _ _)
 
 returns-4 : tie.Need-returns-4
 unfolding fieldsOf kindOf
@@ -92,8 +92,8 @@ pub kind-of-spec : {M : Type 1} → statement M
 kind-of-spec =
     tie.close
     (tie.spec
-    fraction-of-requires
-    fraction-of-requires-2
+    scaled-of-requires
+    scaled-of-requires-2
     cast-t6
     cast-t7
     cast-t8

@@ -9,13 +9,13 @@ use Rattle.record_faults.specs.Contract.{AllSound, First}
 
 module _ {from end : ℕ} {sound : ℕ → Bool} where
   pub passed-none : from ≤ end → AllSound from end sound from
-  passed-none h = record { least = omega arith; most = h; before = λ k l u. absurd (omega arith) }
+  passed-none h = record { least = omega arith; most = h; each = λ k l u. absurd (omega arith) }
 
   pub passed-more : {t : ℕ} → AllSound from end sound t → t < end → sound t ≡ true → AllSound from end sound (t + 1)
-  passed-more {t} p h s = record { least = omega arith; most = omega arith; before = λ k l u. go k l u (decLt k t) }
+  passed-more {t} p h s = record { least = omega arith; most = omega arith; each = λ k l u. go k l u (decLt k t) }
     where
       go : (k : ℕ) → from ≤ k → k < t + 1 → Dec (k < t) → sound k ≡ true
-      go k l u (yes b) = p .before k l b
+      go k l u (yes b) = p .each k l b
       go k l u (no b) =
           let here : k ≡ t = omega arith in
           ap sound here ∙ s

@@ -22,7 +22,7 @@ first-determined {from} {end} {sound} {r} {s} p q = by (decLt r s) (decLt s r)
     not-before : {r s : ℕ} → First from end sound r → First from end sound s → r < s → ⊥
     not-before {r} {s} p q before =
         let here = p .there (omega (arith, q .passed .most)) in
-        let passed = q .passed .before r (p .passed .least) before in
+        let passed = q .passed .each r (p .passed .least) before in
         let no-way : _≡_ {A = ℕ} 0 1 = cc in omega arith
 
     by : Dec (r < s) → Dec (s < r) → r ≡ s

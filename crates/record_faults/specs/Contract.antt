@@ -26,7 +26,7 @@ pub record PairsThere (bytes : List ℕ) (n m : ℕ) : Type 0 where
 pub record AllSound (from end : ℕ) (sound : ℕ → Bool) (r : ℕ) : Type 0 where
   pub least : from ≤ r
   pub most : r ≤ end
-  pub before : (k : ℕ) → from ≤ k → k < r → sound k ≡ true
+  pub each : (k : ℕ) → from ≤ k → k < r → sound k ≡ true
 
 -- The first index from `from` on that is not sound, or `end`.
 pub record First (from end : ℕ) (sound : ℕ → Bool) (r : ℕ) : Type 0 where

@@ -119,12 +119,12 @@ module _ {bytes : List ℕ} {h : Header} (framed : Framed bytes h) {t : ℕ} (te
   unfolding readOf readAs body _>>=_ refuse TERM
   answers-term below e =
       let stops : tab (h .n) 0 (termAt bytes) ≡ refuse TERM t =
-      tab-stopped (termAt bytes) (h .n) 0 t _ below (λ k before. term-made bytes (0 + k) (terms-first .passed .before (0 + k) (omega arith) (omega arith))) (rw zero-add (term-stopped bytes t (terms-first .there below))) in
+      tab-stopped (termAt bytes) (h .n) 0 t _ below (λ k before. term-made bytes (0 + k) (terms-first .passed .each (0 + k) (omega arith) (omega arith))) (rw zero-add (term-stopped bytes t (terms-first .there below))) in
       e ∙ sym (rw (decoded-body, stops))
 
   module _ (all-terms : h .n ≤ t) {both : Bool} (tested : both ≡ sidesBelow bytes (h .n) 16) where
     terms : (list : List Term) × (tab (h .n) 0 (termAt bytes) ≡ made list)
-    terms = tab-made (termAt bytes) (h .n) 0 (λ k below. term-made bytes (0 + k) (terms-first .passed .before (0 + k) (omega arith) (omega arith)))
+    terms = tab-made (termAt bytes) (h .n) 0 (λ k below. term-made bytes (0 + k) (terms-first .passed .each (0 + k) (omega arith) (omega arith)))
 
     -- 6 PAIR, the goal
     pub answers-goal : {r : Read} → not both ≡ true → r ≡ Refused 6 0 → r ≡ readOf bytes
@@ -144,7 +144,7 @@ module _ {bytes : List ℕ} {h : Header} (framed : Framed bytes h) {t : ℕ} (te
       answers-pair within e =
           let index : 1 + (k - 1) ≡ k = omega (arith, first .passed .least) in
           let stops : tab (h .m) 1 pair ≡ refuse PAIR k =
-          tab-stopped pair (h .m) 1 (k - 1) _ (omega (arith, first .passed .least)) (λ j before. (_, pair-made bytes (h .n) (1 + j) _ (first .passed .before (1 + j) (omega arith) (omega arith)))) (rw index (pair-stopped bytes (h .n) k _ (first .there (omega arith)))) in
+          tab-stopped pair (h .m) 1 (k - 1) _ (omega (arith, first .passed .least)) (λ j before. (_, pair-made bytes (h .n) (1 + j) _ (first .passed .each (1 + j) (omega arith) (omega arith)))) (rw index (pair-stopped bytes (h .n) k _ (first .there (omega arith)))) in
           e ∙ sym (rw (decoded-body, terms .1, pair-made bytes (h .n) 0 16 goal, stops))
 
       -- a sound problem
@@ -152,7 +152,7 @@ module _ {bytes : List ℕ} {h : Header} (framed : Framed bytes h) {t : ℕ} (te
       unfolding readOf readAs body _>>=_ pair soundPair headerOf
       answers-sound beyond =
           let pairs : (list : List Pair) × (tab (h .m) 1 pair ≡ made list) =
-          tab-made pair (h .m) 1 (λ j below. (_, pair-made bytes (h .n) (1 + j) _ (first .passed .before (1 + j) (omega arith) (omega arith)))) in
+          tab-made pair (h .m) 1 (λ j below. (_, pair-made bytes (h .n) (1 + j) _ (first .passed .each (1 + j) (omega arith) (omega arith)))) in
           sym
           (rw (decoded-body, terms .1, pair-made bytes (h .n) 0 16 goal, pairs .1)
           (λ i. Sound (record { n = tab-length (termAt bytes) (h .n) 0 _ (terms .1) i; m = tab-length pair (h .m) 1 _ (pairs .1) i; left = sym (framed .header .left) i; right = sym (framed .header .right) i })))

@@ -1,10 +1,10 @@
 // The decider: bytes and two lent lists in, the answer out, for every byte string and every length of either list.
 use answer::Answer;
 use answer::SPACE;
-use rules_problem::PLACES;
-use rules_problem::TERMS;
 use record_reader::Header;
 use record_reader::Read;
+use rules_problem::PLACES;
+use rules_problem::TERMS;
 use run_progress::Ran;
 use run_table::OPEN;
 ghost use mathlib.Core.Path.{_≡_};

@@ -1,6 +1,6 @@
 // Minus a fraction, and 1 over a fraction: neither is ever refused.
-use fraction_reduce::reduce::made;
 use fraction::Fraction;
+use fraction_reduce::reduce::made;
 use whole_signed::opposite;
 use whole_signed::wide;
 use whole_size::size;

@@ -1,10 +1,10 @@
 // The product and the quotient of two fractions.
-use fraction_reduce::Made;
-use fraction_reduce::bottoms;
-use fraction_reduce::reduce::reduced;
 use fraction::Fraction;
 use fraction_inverse::inverted;
 use fraction_inverse::negated;
+use fraction_reduce::Made;
+use fraction_reduce::bottoms;
+use fraction_reduce::reduce::reduced;
 ghost use mathlib.Core.Path.{_≡_};
 ghost use lib.IntN.{pos};
 ghost use Rattle.fraction.specs.Exact.{value};

@@ -1,8 +1,8 @@
 // A whole number over another, in lowest terms and tested against the limits.
 use crate::Made;
 use answer::RANGE;
-use whole_gcd::greatest;
 use fraction::Fraction;
+use whole_gcd::greatest;
 use whole_size::narrow;
 use whole_size::put_back;
 use whole_size::size_wide;

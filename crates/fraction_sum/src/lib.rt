@@ -1,10 +1,10 @@
 // The sum and the difference of two fractions.
+use fraction::Fraction;
+use fraction_inverse::negated;
 use fraction_reduce::Made;
 use fraction_reduce::bottoms;
 use fraction_reduce::reduce::reduced;
-use fraction::Fraction;
 use whole_signed::times;
-use fraction_inverse::negated;
 ghost use mathlib.Core.Path.{_≡_};
 ghost use Prim.Native.Nat.{_<_, _^_};
 ghost use lib.IntN.{natAbs, _+ℤ_, _*ℤ_};

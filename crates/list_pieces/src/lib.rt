@@ -1,9 +1,9 @@
 // The pieces of a row's line.
 use list_decimal::put_decimal;
+use list_text::put_byte;
 use rules_problem::COLUMNS;
 use rules_problem::TERMS;
 use whole_size::size;
-use list_text::put_byte;
 ghost use mathlib.Core.Path.{_≡_};
 ghost use mathlib.Core.Bool.{true};
 ghost use mathlib.Core.List.{[], _∷_};

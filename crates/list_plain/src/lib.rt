@@ -1,9 +1,9 @@
 // The line writer's lines for a plain buffer and a place: whoever calls these needs no writer of its own.
 use answer::Answer;
+use list_lines::Reached;
 use list_writer::Writer;
 use list_writer::first_line;
 use list_writer::list_row;
-use list_lines::Reached;
 ghost use mathlib.Core.Path.{_≡_};
 ghost use Rattle.rules_listing.specs.Listing.{listRow};
 ghost use Rattle.list_lines.specs.Leaves.{leaves, listFirst};

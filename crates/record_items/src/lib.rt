@@ -1,7 +1,7 @@
 // A term or a pair of a problem that was read.
 use record_cursor::Cursor;
-use rules_problem::Term;
 use record_term::held_term;
+use rules_problem::Term;
 ghost use mathlib.Core.Path.{_≡_};
 ghost use Rattle.fraction.specs.Made.{made};
 ghost use Rattle.rules_problem.specs.Pairs.{pairThere};

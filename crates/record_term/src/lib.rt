@@ -1,7 +1,7 @@
 // The term that a record holds, or that the record is faulty.
+use fraction::Fraction;
 use record_fields::Fields;
 use record_fields::read_fields;
-use fraction::Fraction;
 use rules_problem::Kind;
 use rules_problem::Term;
 ghost use mathlib.Core.Path.{_≡_};

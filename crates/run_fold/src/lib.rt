@@ -1,6 +1,6 @@
 // Folding a solved form into the rows of the table.
-use fraction_reduce::Made;
 use fraction::Fraction;
+use fraction_reduce::Made;
 use rules_problem::COLUMNS;
 use run_table::PENDING;
 use run_table::Step;

@@ -1,7 +1,7 @@
 // Merging two terms: the difference of their rows, the unknown that it solves, and the fold into every row.
-use run_pivot::Found;
 use rules_problem::COLUMNS;
 use rules_problem::TERMS;
+use run_pivot::Found;
 use run_table::Step;
 ghost use Rattle.run_table.specs.Work.{lent, entered, leaving};
 ghost use Rattle.run_merge.specs.Contract.{Mergeable, Settleable, Solvable, rowIn, Solves, Settles, Merges};

@@ -1,7 +1,7 @@
 // The form of the unknown that a difference solves, in the difference's place. It goes only through the columns of a set, outside of
 // which the difference holds 0, and through the constant's, which `set_extremes::first` comes to last.
-use fraction_reduce::Made;
 use fraction::Fraction;
+use fraction_reduce::Made;
 use rules_problem::COLUMNS;
 use run_table::Step;
 ghost use mathlib.Core.Path.{_≡_};

@@ -1,6 +1,6 @@
 // The operations in code on every pair of 24 fractions, the limits' neighbours and cases M and N's numbers among them.
-use fraction_reduce::Made;
 use fraction::Fraction;
+use fraction_reduce::Made;
 ghost use mathlib.Core.Path.{_≡_};
 ghost use mathlib.Core.Bool.{true};
 ghost use Rattle.fraction_reduce.specs.Values.{Good};

@@ -6,7 +6,7 @@ use mathlib.Core.Path.{_≡_, refl, sym, ap, _∙_, subst}
 use mathlib.Core.Logic.{inr, _≢_}
 use mathlib.Core.Bool.{false, false≢true}
 use mathlib.Core.List.{List}
-use Prim.Native.Nat.{ℕ, _+_, _≤_, _<_}
+use Prim.Native.Nat.{ℕ, _+_, _-_, _≤_, _<_}
 use native.Mathlib.Decide.{ℕ-discrete}
 use native.Mathlib.Omega.{arith}
 use lib.ListN.{length, set as stored-at}
@@ -135,6 +135,17 @@ module _ {g : ℕ → rule.Made ℕ ℚ} {base m set : ℕ} {nums₀ dens₀ : L
     -- The least of the rest is the next of the set.
     pub taking-next : Next set c at
     taking-next = from-first (omega arith) (taking .from) first
+
+    -- Its place is there.
+    pub taking-in-nums : base + at < length nums
+    taking-in-nums = omega (arith, first .most, taking .going .nums-fit, taking .going .making .kept .nums-length)
+
+    pub taking-in-dens : base + at < length dens
+    taking-in-dens = omega (arith, first .most, taking .going .dens-fit, taking .going .making .kept .dens-length)
+
+    -- Each turn leaves fewer columns to come to.
+    pub taking-less : COLUMNS - (at + 1) < COLUMNS - c
+    taking-less = omega (arith, taking-next .forward, first .most)
 
     pub taking-stores : {after : ℕ} {r : Made} {f : Fraction} {place : ℕ} {nums′ dens′ : List ℤ} → Rest rest after → Answers r (g at) → r ≡ Fits f → place ≡ base + at → nums′ ≡ stored-at nums place (f .num) → dens′ ≡ stored-at dens place (f .den) → Taking g base m set (at + 1) after nums₀ dens₀ nums′ dens′
     taking-stores left answers fits there num den =

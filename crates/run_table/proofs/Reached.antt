@@ -1,6 +1,6 @@
--- A loop over the columns of a set and the constant's: those that it comes to, and those that it passes over; and a row one of whose
--- columns is made before the loop over the others.
--- Main definition: `Stored`. Main results: `reached-next`, `reached-out`, `reached-skips`, `stores`, `stored-sound`, `stored-other`, `row-apart`. Assume nothing.
+-- A row of which the columns of a set are made anew, and the constant's; and one of whose columns is made before the others.
+-- Main definition: `Stored`. Main results: `reached-next`, `reached-out`, `reached-leaves`, `stores`, `stored-sound`, `stored-other`,
+-- `row-apart`. Assume nothing.
 use mathlib.Core.Path.{_≡_, refl, sym, ap, _∙_, subst}
 use mathlib.Core.Logic.{_⊎_, inl, inr, _≢_}
 use mathlib.Core.Bool.{Bool, true, false, not, _&&_, _||_, cond, or-true}
@@ -20,13 +20,13 @@ use Rattle.fraction.specs.Exact.{ℚ, value, zeroℚ}
 use Rattle.fraction.specs.Made.{Made, made, _>>=_, tab}
 use Rattle.fraction_reduce.specs.Values.{Good}
 use Rattle.rules_run.specs.Row.{TERMS, COLUMNS, constant, Row, column, row}
 use Rattle.run_table.specs.declared.Step.{Step}
 use Rattle.run_table.specs.Held.{heldAt, rowAt, SoundTo}
-use Rattle.run_table.specs.Loop.{Kept, Making, RowMade}
+use Rattle.run_table.specs.Loop.{Kept, RowMade}
+use Rattle.run_table.specs.Reached.{reached}
 use Rattle.run_table.proofs.Columns.{column-held, kept-then}
+use Rattle.run_table.proofs.OverSet.{Leaves}
 use Rattle.run_table.proofs.Rows.{held-same, held-other}
-use Rattle.run_table.proofs.Sparse.{making-skips}
-use Rattle.run_fold.specs.Cell.{reached}
 
 module _ (set : ℕ) (h : ℕ → Made ℕ ℚ) (r : Row) where
   made-there : {c : ℕ} → (holds set c || eqb c constant) ≡ true → reached set h r c ≡ h c
@@ -54,12 +54,10 @@ module _ (set : ℕ) (h : ℕ → Made ℕ ℚ) (r : Row) where
   reached-out c below out =
       ap (λ b. cond (b || eqb c 64) (h c) (made (column r c))) out ∙ ap (λ b. cond b (h c) (made (column r c))) (ne-eqb c 64 (λ e. omega arith))
 
--- So the loop may go on at the next column of the set.
-pub reached-skips : (h : ℕ → Made ℕ ℚ) {set c at base m : ℕ} {nums₀ dens₀ nums dens : List ℤ} → Next set c at → Making (reached set h (rowAt nums₀ dens₀ base)) base m c nums₀ dens₀ nums dens → Making (reached set h (rowAt nums₀ dens₀ base)) base m at nums₀ dens₀ nums dens
-reached-skips h {set} {c} {at} {base} {m} {nums₀} {dens₀} next making =
-    making-skips at (next .forward) (λ k above below.
-    let term : k < 64 = omega (arith, next .most) in
-    reached-out set h (rowAt nums₀ dens₀ base) k term (next .none-between k above below) ∙ ap made (column-held nums₀ dens₀ base k (omega arith))) making
+-- So the rule leaves what stands there.
+pub reached-leaves : (h : ℕ → Made ℕ ℚ) (set base : ℕ) (nums dens : List ℤ) → Leaves (reached set h (rowAt nums dens base)) set base nums dens
+reached-leaves h set base nums dens =
+    record { stands = λ c below out. reached-out set h (rowAt nums dens base) c below out ∙ ap made (column-held nums dens base c (omega arith)) }
 
 -- The fraction f is stored at one place of the lists.
 pub record Stored (place : ℕ) (f : Fraction) (nums₀ dens₀ nums dens : List ℤ) : Type 0 where

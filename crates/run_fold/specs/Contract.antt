@@ -60,9 +60,13 @@ pub record FoldableAt (base p set : ℕ) (rows form : Lists) : Type 0 where
   pub row : RowHeld base rows
   pub form-row : RowWithin set 0 form
 
+-- the columns of the row with the form folded in
+abbrev pub foldedIn : (base p : ℕ) (rows form : Lists) → (c : ℕ) → Made ℕ ℚ
+foldedIn base p rows form c = foldedColumn p (rowIn form 0) (rowIn rows base) c
+
 -- The form is folded into the row as the rule does it, or a column is refused; no other row has changed.
 pub record FoldsAt (base p : ℕ) (form : Lists) (step : Step) (old new : Lists) : Type 0 where
-  pub row-made : RowMade (foldedColumn p (rowIn form 0) (rowIn old base)) base (base + COLUMNS) step (old .nums) (old .dens) (new .nums) (new .dens)
+  pub row-made : RowMade (foldedIn base p old form) base (base + COLUMNS) step (old .nums) (old .dens) (new .nums) (new .dens)
 
 -- a row and an unknown to be noted in the sets
 pub record Notable (t p : ℕ) (sets : List ℕ) : Type 0 where

@@ -22,12 +22,12 @@ use Rattle.rules_run.specs.Merge.{foldedColumn, folded}
 use Rattle.run_table.specs.declared.Step.{Step}
 use Rattle.run_table.specs.declared.Step.the-variants.{Done, Refused}
 use Rattle.run_table.specs.Held.{heldAt, rowAt, tableAt, SoundTo, finished}
-use Rattle.run_table.specs.Lists.{Lists, both, rowIn, RowHeld}
+use Rattle.run_table.specs.Lists.{Lists, both, rowIn}
 use Rattle.run_table.specs.Loop.{Kept}
 use Rattle.run_table.specs.Sparse.{Sparse, Stirred}
 use Rattle.run_table.specs.Work.{Work, tableOf, Rows}
-use Rattle.run_table.proofs.Columns.{row-held, table-length, kept-itself, kept-row, kept-within, kept-then, sound-fewer, sound-beyond}
-use Rattle.run_table.proofs.Lists.{read-good}
+use Rattle.run_table.proofs.Columns.{row-held, table-length, kept-itself, kept-row, kept-within, kept-then, sound-beyond}
+use Rattle.run_table.proofs.Lists.{rows-held, read-good}
 use Rattle.run_table.proofs.Rows.{tab-listed}
 use Rattle.run_table.proofs.Sparse.{zero-numerator, stirred-itself}
 use Rattle.run_table.proofs.Stirred.{stirred-then}
@@ -81,23 +81,27 @@ module _ {n p set : ℕ} {form : Lists} {old : Work} (asked : Foldable n p set f
       }
 
   module _ {t : ℕ} {w : Work} (folding : Folding n p form t old w) where
-    row-at : (s : ℕ) → s < n → RowHeld (COLUMNS * s) (both (w .nums) (w .dens))
-    row-at s below =
+    -- The rows can be worked on as at entry,
+    rows-now : Rows n w
+    rows-now =
         let rows = asked .rows in
         let kept = folding .kept in
         record {
-          nums-fit = omega (arith, rows .few, rows .nums-fit, kept .nums-length);
-          dens-fit = omega (arith, rows .few, rows .dens-fit, kept .dens-length);
-          sound = sound-fewer (COLUMNS * s + COLUMNS) (omega arith) (folding .sound);
+          few = rows .few;
+          nums-fit = omega (arith, rows .nums-fit, kept .nums-length);
+          dens-fit = omega (arith, rows .dens-fit, kept .dens-length);
+          sound = folding .sound;
+          size = folding .stirred .same-length ∙ rows .size;
+          sparse = folding .sparse;
         }
 
     foldable : (s : ℕ) → s < n → FoldableAt (COLUMNS * s) p set (both (w .nums) (w .dens)) form
-    foldable s below = record { unknown = asked .unknown; row = row-at s below; form-row = asked .form-row }
+    foldable s below = record { unknown = asked .unknown; row = rows-held rows-now s below; form-row = asked .form-row }
 
-    -- The next row can be folded.
+    -- and the next row can be folded.
     pub folding-asks : t < n → FoldableRow t p set form w
     folding-asks below =
-        record { term = omega (arith, asked .rows .few); size = folding .stirred .same-length ∙ asked .rows .size; columns = foldable t below }
+        record { term = omega (arith, asked .rows .few); size = rows-now .size; columns = foldable t below }
 
     module _ {w′ : Work} {step : Step} (below : t < n) (folds : FoldsRow t p set form step w w′) where
       -- The rule's row t is the one that the turn reads.

@@ -1,4 +1,5 @@
-// Folding a solved form into the rows of the table.
+// Folding a solved form into the rows of the table: into every row that holds the solved unknown, and in a row only into the columns that
+// the form can have.
 use fraction::Fraction;
 use fraction_reduce::Made;
 use rules_problem::COLUMNS;
@@ -13,8 +14,8 @@ ghost use Rattle.run_fold.specs.Cell.{gainedBy};
 ghost use Rattle.run_fold.specs.Contract.{Gainable, GainableRow, GainsRow, FoldableAt, FoldsAt};
 ghost use Rattle.run_fold.specs.Contract.{Notable, Noted, FoldableRow, FoldsRow, Passable, Passed, Foldable, Folds};
 
-// The old number gains k times the form's number: one product, one sum. Where k is 1 the product is the form's number itself, which is
-// within the limits already: only the sum is made.
+// A number of a row gains k times the form's: one product, one sum. Where k is 1 the product is the form's own number, which is within the
+// limits already, so that only the sum is made.
 fn gained(k: Fraction, form: Fraction, old: Fraction) -> Made
     requires { ⌜ Gainable k form old ⌝ }
     ensures { λ r. ⌜ Answers r (gainedBy (value k) (value form) (value old)) ⌝ }
@@ -30,7 +31,8 @@ fn gained(k: Fraction, form: Fraction, old: Fraction) -> Made
     }
 }
 
-// The columns of a set, and the constant's, of the row at base: each gains k times the form's. Where the form holds 0 the number stands.
+// The row at base gains k times the form in the columns of a set, in rising order, and last in the constant's. Where the form holds 0 a
+// column gains 0, and keeps its number.
 fn gain_columns(
     nums: &mut [i32],
     dens: &mut [i32],
@@ -61,8 +63,8 @@ fn gain_columns(
     Step::Done
 }
 
-// The columns of the row at base, with the form of p folded in. The coefficient at p becomes 0; of the others, those where the form
-// holds 0 stand, so that only those of its set are gone through, and the constant's.
+// The form of p is folded into the row at base: its coefficient k at p becomes 0, and each other column gains k times the form's. Outside
+// the form's set the form holds 0, so that only the columns of the set have to be gone through, without p, and the constant's.
 fn fold_columns(
     nums: &mut [i32],
     dens: &mut [i32],
@@ -88,8 +90,8 @@ fn fold_columns(
     )
 }
 
-// The form of p, with the columns of its set, comes into row t: the row may have them from then on, and p no more; and the lookups
-// that t is an input of have to be looked at again.
+// What the sets say once the form of p is folded into row t: the row can have the columns of the form's set too, and p no more; and the
+// lookups that t is an input of have to be looked at again, since the row of their input has changed.
 fn note(sets: &mut [u64], t: usize, p: usize, set: u64)
     requires { ⌜ Notable t p (now sets) ⌝ }
     ensures { λ r. ⌜ Noted t p set (now (sets .entry)) (now (sets .exit)) ⌝ }
@@ -100,8 +102,8 @@ fn note(sets: &mut [u64], t: usize, p: usize, set: u64)
     sets[PENDING] = pending;
 }
 
-// Row t, with the form of p folded in, and its sets. A row whose coefficient at p is 0 is passed over: nothing in it changes.
-// The sets are noted first, so that they are right of a row that is refused in its middle, too.
+// The form of p is folded into row t. Where the row's coefficient at p is 0 the fold changes nothing, and neither do the sets.
+// The sets are noted before the row is written, so that they are right also of a row that is refused in its middle.
 fn fold_row(
     nums: &mut [i32],
     dens: &mut [i32],
@@ -124,7 +126,7 @@ fn fold_row(
     fold_columns(nums, dens, base, p, set, form_nums, form_dens)
 }
 
-// The next row from one on that holds p, or n: the rows before it have nothing to fold.
+// The first row from `from` on whose coefficient at p is not 0, or n where there is none. The rows before it are their own folds.
 fn next_row(nums: &[i32], n: usize, p: usize, from: usize) -> usize
     requires { ⌜ Passable n p from (now nums) ⌝ }
     ensures { λ r. ⌜ Passed n p from r (now (nums .entry)) ⌝ }
@@ -141,7 +143,7 @@ fn next_row(nums: &[i32], n: usize, p: usize, from: usize) -> usize
 }
 
 // 01, Merge: "in each row with coefficient k there, that coefficient becomes 0, and each other column gains k times the solved
-// column". The form stands in the first 65 places of its two lists; its set holds p, and the columns where the form is not 0.
+// column". The form stands in the first places of its two lists; its set holds p, and every term's column where the form is not 0.
 pub fn fold_rows(
     nums: &mut [i32],
     dens: &mut [i32],

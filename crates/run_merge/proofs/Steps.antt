@@ -5,7 +5,7 @@ use mathlib.Core.Path.{_≡_, refl, sym, ap, ap₂, _∙_}
 use mathlib.Core.Bool.{_||_}
 use mathlib.Core.List.{List}
 use mathlib.Core.Option.{some, none}
-use Prim.Native.Nat.{ℕ, _+_, _*_, _<_}
+use Prim.Native.Nat.{ℕ, _*_}
 use native.Mathlib.Nat.{zero-add}
 use native.Mathlib.Omega.{arith}
 use lib.IntN.{ℤ, pos}
@@ -25,11 +25,11 @@ use Rattle.rules_run.specs.Run.{byNumber}
 use Rattle.run_table.specs.declared.Step.{Step}
 use Rattle.run_table.specs.declared.Step.the-variants.{Done, Refused as Stopped}
 use Rattle.run_table.specs.Held.{heldAt, rowAt}
-use Rattle.run_table.specs.Lists.{Lists, both, rowIn, RowHeld, RowWithin}
+use Rattle.run_table.specs.Lists.{Lists, both, RowWithin}
 use Rattle.run_table.specs.Sparse.{columnsOf}
 use Rattle.run_table.specs.Work.{Work, tableOf, Rows}
-use Rattle.run_table.proofs.Columns.{column-first, row-held, kept-itself, sound-zeros, sound-fewer}
-use Rattle.run_table.proofs.Lists.{first-good}
+use Rattle.run_table.proofs.Columns.{column-first, row-held, kept-itself, sound-zeros}
+use Rattle.run_table.proofs.Lists.{rows-held, first-good}
 use Rattle.run_table.proofs.Sparse.{within-left, within-right, stirred-itself}
 use Rattle.run_table.proofs.Turns.{finished-done, finished-refused}
 use Rattle.run_difference.specs.Contract.{Subtractable, apart, Subtracts}
@@ -162,15 +162,6 @@ zeros-within =
 
 -- The terms are merged: the difference of their rows is taken, and settled.
 module _ {n t u : ℕ} {w : Work} (asked : Mergeable n t u w) where
-  row-at : (s : ℕ) → s < n → RowHeld (COLUMNS * s) (both (w .nums) (w .dens))
-  row-at s below =
-      let rows = asked .rows in
-      record {
-        nums-fit = omega (arith, rows .few, rows .nums-fit);
-        dens-fit = omega (arith, rows .few, rows .dens-fit);
-        sound = sound-fewer (COLUMNS * s + COLUMNS) (omega arith) (rows .sound);
-      }
-
   -- Neither row has a column outside the union of their sets.
   pub merge-subtracts : (set : ℕ) → ((c : ℕ) → holds set c ≡ (holds (columnsOf (w .sets) t) c || holds (columnsOf (w .sets) u) c)) → Subtractable (COLUMNS * t) (COLUMNS * u) set (both (w .nums) (w .dens)) zeros
   merge-subtracts set union =
@@ -178,8 +169,8 @@ module _ {n t u : ℕ} {w : Work} (asked : Mergeable n t u w) where
       let right = columnsOf (w .sets) u in
       let sparse = asked .rows .sparse in
       record {
-        left-row = record { held = row-at t (asked .left); within = within-left left right union (sparse .within t (asked .left)) };
-        right-row = record { held = row-at u (asked .right); within = within-right left right union (sparse .within u (asked .right)) };
+        left-row = record { held = rows-held (asked .rows) t (asked .left); within = within-left left right union (sparse .within t (asked .left)) };
+        right-row = record { held = rows-held (asked .rows) u (asked .right); within = within-right left right union (sparse .within u (asked .right)) };
         zeros = zeros-within;
       }
 

@@ -46,10 +46,14 @@ module _ {left right set : ℕ} {nums dens nums₀ dens₀ : List ℤ} (asked : 
   pub difference-starts : Taking (apart left right (both nums dens)) 0 COLUMNS set 0 set nums₀ dens₀ nums₀ dens₀
   difference-starts = taking-starts (asked .zeros .held .nums-fit) (asked .zeros .held .dens-fit) (omega arith) (asked .zeros .held .sound) leaves
 
-  over : {step : Step} {nums′ dens′ : List ℤ} → Gone (apart left right (both nums dens)) 0 COLUMNS set step nums₀ dens₀ nums′ dens′ → Subtracts left right set step (both nums dens) (both nums₀ dens₀) (both nums′ dens′)
+  over : {step : Step} {nums′ dens′ : List ℤ} → Gone (apart left right (both nums dens)) 0 COLUMNS set step nums₀ dens₀ nums′ dens′
+      → Subtracts left right set step (both nums dens) (both nums₀ dens₀) (both nums′ dens′)
   over gone = record { row-made = gone .row-made; within = gone-within gone (within-any (asked .zeros .within)) }
 
-  module _ {c rest at : ℕ} {nums₁ dens₁ : List ℤ} {a b : Fraction} {r : Made} (taking : Taking (apart left right (both nums dens)) 0 COLUMNS set c rest nums₀ dens₀ nums₁ dens₁) (more : c < COLUMNS) (first : Next rest 0 at) (from-left : a ≡ heldAt nums dens (left + at)) (from-right : b ≡ heldAt nums dens (right + at)) (answers : Answers r (minus (value a) (value b))) where
+  module _ {c rest at : ℕ} {nums₁ dens₁ : List ℤ} {a b : Fraction} {r : Made}
+      (taking : Taking (apart left right (both nums dens)) 0 COLUMNS set c rest nums₀ dens₀ nums₁ dens₁) (more : c < COLUMNS)
+      (first : Next rest 0 at) (from-left : a ≡ heldAt nums dens (left + at)) (from-right : b ≡ heldAt nums dens (right + at))
+      (answers : Answers r (minus (value a) (value b))) where
     -- What answers for the two numbers that stand there answers for the column.
     column-answers : Answers r (apart left right (both nums dens) at)
     column-answers =
@@ -57,11 +61,16 @@ module _ {left right set : ℕ} {nums dens nums₀ dens₀ : List ℤ} (asked : 
         subst (Answers r) (ap₂ minus (ap value from-left ∙ sym (column-held nums dens left at (omega arith))) (ap value from-right ∙ sym (column-held nums dens right at (omega arith)))) answers
 
     -- It is stored, and the loop goes on; or it is refused, and the loop is over.
-    pub difference-stores : {after : ℕ} {f : Fraction} {nums′ dens′ : List ℤ} → Rest rest after → r ≡ Fits f → nums′ ≡ stored-at nums₁ at (f .num) → dens′ ≡ stored-at dens₁ at (f .den) → Taking (apart left right (both nums dens)) 0 COLUMNS set (at + 1) after nums₀ dens₀ nums′ dens′
+    pub difference-stores : {after : ℕ} {f : Fraction} {nums′ dens′ : List ℤ} → Rest rest after → r ≡ Fits f
+        → nums′ ≡ stored-at nums₁ at (f .num) → dens′ ≡ stored-at dens₁ at (f .den)
+        → Taking (apart left right (both nums dens)) 0 COLUMNS set (at + 1) after nums₀ dens₀ nums′ dens′
     difference-stores others fits num den = taking-stores taking more first others column-answers fits (sym (zero-add at)) num den
 
-    pub difference-stops : {number : ℕ} → r ≡ Refused number → Subtracts left right set (Stopped number) (both nums dens) (both nums₀ dens₀) (both nums₁ dens₁)
+    pub difference-stops : {number : ℕ} → r ≡ Refused number
+        → Subtracts left right set (Stopped number) (both nums dens) (both nums₀ dens₀) (both nums₁ dens₁)
     difference-stops refused = over (taking-stops taking more first column-answers refused)
 
-  pub difference-ends : {c rest : ℕ} {nums₁ dens₁ : List ℤ} → Taking (apart left right (both nums dens)) 0 COLUMNS set c rest nums₀ dens₀ nums₁ dens₁ → COLUMNS ≤ c → Subtracts left right set Done (both nums dens) (both nums₀ dens₀) (both nums₁ dens₁)
+  pub difference-ends : {c rest : ℕ} {nums₁ dens₁ : List ℤ}
+      → Taking (apart left right (both nums dens)) 0 COLUMNS set c rest nums₀ dens₀ nums₁ dens₁ → COLUMNS ≤ c
+      → Subtracts left right set Done (both nums dens) (both nums₀ dens₀) (both nums₁ dens₁)
   difference-ends taking end = over (taking-ends taking end)

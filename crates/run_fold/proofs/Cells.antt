@@ -30,7 +30,8 @@ unfolding foldedColumn gainedBy
 folded-solved p form r c same = ap (λ t. cond t (made zeroℚ) (gainedBy (column r p) (column form c) (column r c))) (eq-eqb c p same)
 
 -- Any other column gains k times the form's.
-pub folded-gains : (p : ℕ) (form r : Row) (c : ℕ) → (c ≡ p → ⊥) → foldedColumn p form r c ≡ gainedBy (column r p) (column form c) (column r c)
+pub folded-gains : (p : ℕ) (form r : Row) (c : ℕ) → (c ≡ p → ⊥)
+    → foldedColumn p form r c ≡ gainedBy (column r p) (column form c) (column r c)
 unfolding foldedColumn gainedBy
 folded-gains p form r c other = ap (λ t. cond t (made zeroℚ) (gainedBy (column r p) (column form c) (column r c))) (ne-eqb c p other)
 
@@ -58,7 +59,8 @@ gains-nothing f good = gains-zero zeroℚ f good (field.times-comm zeroℚ f ∙
 
 -- What answers for the code's steps answers for the rule: where k is 1 the sum with the form's number,
 module _ {k form old : Fraction} (asked : Gainable k form old) where
-  pub gained-one : {r : Made} → ofZ w32 (k .num) ≡ ofZ w32 (pos 1) → ofZ w32 (k .den) ≡ ofZ w32 (pos 1) → Answers r (plus (value old) (value form)) → Answers r (gainedBy (value k) (value form) (value old))
+  pub gained-one : {r : Made} → ofZ w32 (k .num) ≡ ofZ w32 (pos 1) → ofZ w32 (k .den) ≡ ofZ w32 (pos 1)
+      → Answers r (plus (value old) (value form)) → Answers r (gainedBy (value k) (value form) (value old))
   gained-one {r} num den answers =
       let good = asked .coefficient-good in
       let product = times-one good (asked .form-good) (word-is (pos 1) tt (good-num good) num) (word-is (pos 1) tt (good-den good) den) in
@@ -66,7 +68,8 @@ module _ {k form old : Fraction} (asked : Gainable k form old) where
 
   -- else the sum with the product that was made,
   module _ {product : Made} (multiplied : Answers product (times (value k) (value form))) where
-    pub gained-product : {r : Made} {f : Fraction} → product ≡ Fits f → Answers r (plus (value old) (value f)) → Answers r (gainedBy (value k) (value form) (value old))
+    pub gained-product : {r : Made} {f : Fraction} → product ≡ Fits f → Answers r (plus (value old) (value f))
+        → Answers r (gainedBy (value k) (value form) (value old))
     gained-product {r} fits answers = subst (Answers r) (sym (gained-then (value k) (value form) (value old) (fits-made multiplied fits))) answers
 
     -- or the refusal of the product.

@@ -1,7 +1,7 @@
 -- The fold of one row: 0 is stored in the solved column, and the others gain.
 -- Main results: `column-stands`, `fold-asks`, `fold-made`, `row-passed`. Assume nothing.
 use mathlib.Core.Path.{_≡_, refl, sym, ap, ap₂, _∙_}
-use mathlib.Core.Bool.{true, false, not, _&&_, false≢true}
+use mathlib.Core.Bool.{false, not, _&&_, false≢true}
 use mathlib.Core.List.{List}
 use Prim.Native.Nat.{ℕ, _+_, _<_}
 use native.Mathlib.Decide.{ℕ-discrete}
@@ -28,9 +28,11 @@ use Rattle.run_fold.specs.Cell.{gainedBy, gainedColumn}
 use Rattle.run_fold.specs.Contract.{GainableRow, GainsRow, FoldableAt, FoldsAt}
 use Rattle.run_fold.proofs.Cells.{folded-solved, folded-gains, gains-no-form, gains-nothing}
 
-module _ {base p set : ℕ} {nums₀ dens₀ form-nums form-dens : List ℤ} (asked : FoldableAt base p set (both nums₀ dens₀) (both form-nums form-dens)) where
+module _ {base p set : ℕ} {nums₀ dens₀ form-nums form-dens : List ℤ}
+    (asked : FoldableAt base p set (both nums₀ dens₀) (both form-nums form-dens)) where
   -- Outside the form's set, which has p, the rule leaves a column as it is.
-  pub column-stands : (c : ℕ) → c < TERMS → holds set c ≡ false → foldedColumn p (rowAt form-nums form-dens 0) (rowAt nums₀ dens₀ base) c ≡ made (value (heldAt nums₀ dens₀ (base + c)))
+  pub column-stands : (c : ℕ) → c < TERMS → holds set c ≡ false
+      → foldedColumn p (rowAt form-nums form-dens 0) (rowAt nums₀ dens₀ base) c ≡ made (value (heldAt nums₀ dens₀ (base + c)))
   column-stands c below out =
       folded-gains p (rowAt form-nums form-dens 0) (rowAt nums₀ dens₀ base) c (λ same. false≢true (sym out ∙ ap (holds set) same ∙ asked .unknown .inside))
       ∙ ap₂ (gainedBy (column (rowAt nums₀ dens₀ base) p)) (column-nothing (asked .form-row) c below out) (column-held nums₀ dens₀ base c (omega arith))
@@ -62,7 +64,9 @@ module _ {base p set : ℕ} {nums₀ dens₀ form-nums form-dens : List ℤ} (as
           }
 
       -- and where they have, in the set without p, the row is folded.
-      pub fold-made : (others : ℕ) → ((c : ℕ) → holds others c ≡ (not (eqb c p) && holds set c)) → {step : Step} {nums dens : List ℤ} → GainsRow base k others (both form-nums form-dens) step (both nums₁ dens₁) (both nums dens) → FoldsAt base p (both form-nums form-dens) step (both nums₀ dens₀) (both nums dens)
+      pub fold-made : (others : ℕ) → ((c : ℕ) → holds others c ≡ (not (eqb c p) && holds set c)) → {step : Step} {nums dens : List ℤ}
+          → GainsRow base k others (both form-nums form-dens) step (both nums₁ dens₁) (both nums dens)
+          → FoldsAt base p (both form-nums form-dens) step (both nums₀ dens₀) (both nums dens)
       unfolding gainedColumn
       fold-made others without gains =
           let form = rowAt form-nums form-dens 0 in
@@ -79,7 +83,8 @@ module _ {base p set : ℕ} {nums₀ dens₀ form-nums form-dens : List ℤ} (as
           }
 
   -- A row whose coefficient at p is 0 is its own fold.
-  pub row-passed : value (heldAt nums₀ dens₀ (base + p)) ≡ zeroℚ → FoldsAt base p (both form-nums form-dens) Done (both nums₀ dens₀) (both nums₀ dens₀)
+  pub row-passed : value (heldAt nums₀ dens₀ (base + p)) ≡ zeroℚ
+      → FoldsAt base p (both form-nums form-dens) Done (both nums₀ dens₀) (both nums₀ dens₀)
   row-passed none =
       record {
         row-made =
@@ -91,7 +96,8 @@ module _ {base p set : ℕ} {nums₀ dens₀ form-nums form-dens : List ℤ} (as
             });
       }
     where
-      by : (c : ℕ) → c < COLUMNS → Dec (c ≡ p) → foldedColumn p (rowAt form-nums form-dens 0) (rowAt nums₀ dens₀ base) c ≡ made (value (heldAt nums₀ dens₀ (base + c)))
+      by : (c : ℕ) → c < COLUMNS → Dec (c ≡ p)
+          → foldedColumn p (rowAt form-nums form-dens 0) (rowAt nums₀ dens₀ base) c ≡ made (value (heldAt nums₀ dens₀ (base + c)))
       by c below (yes same) =
           folded-solved p (rowAt form-nums form-dens 0) (rowAt nums₀ dens₀ base) c same ∙ ap made (sym (ap (λ x. value (heldAt nums₀ dens₀ (base + x))) same ∙ none))
       by c below (no other) =

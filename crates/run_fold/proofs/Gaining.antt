@@ -27,13 +27,17 @@ use Rattle.run_fold.specs.Cell.{gainedBy, gainedColumn}
 use Rattle.run_fold.specs.Contract.{Gainable, GainableRow, gainedIn, GainsRow}
 use Rattle.run_fold.proofs.Cells.{gains-no-form}
 
-module _ {base : ℕ} {k : Fraction} {nums₀ dens₀ form-nums form-dens : List ℤ} (asked : GainableRow base k (both nums₀ dens₀) (both form-nums form-dens)) where
-  pub gaining-starts : (set : ℕ) → Taking (gainedIn base k set (both nums₀ dens₀) (both form-nums form-dens)) base (base + COLUMNS) set 0 set nums₀ dens₀ nums₀ dens₀
+module _ {base : ℕ} {k : Fraction} {nums₀ dens₀ form-nums form-dens : List ℤ}
+    (asked : GainableRow base k (both nums₀ dens₀) (both form-nums form-dens)) where
+  pub gaining-starts : (set : ℕ)
+      → Taking (gainedIn base k set (both nums₀ dens₀) (both form-nums form-dens)) base (base + COLUMNS) set 0 set nums₀ dens₀ nums₀ dens₀
   gaining-starts set =
       let row = asked .row in
       taking-starts (row .nums-fit) (row .dens-fit) (omega arith) (row .sound) (reached-leaves (gainedColumn (value k) (rowAt form-nums form-dens 0) (rowAt nums₀ dens₀ base)) set base nums₀ dens₀)
 
-  module _ {set c rest at : ℕ} {nums dens : List ℤ} {form : Fraction} (taking : Taking (gainedIn base k set (both nums₀ dens₀) (both form-nums form-dens)) base (base + COLUMNS) set c rest nums₀ dens₀ nums dens) (more : c < COLUMNS) (first : Next rest 0 at) (formed : form ≡ heldAt form-nums form-dens at) where
+  module _ {set c rest at : ℕ} {nums dens : List ℤ} {form : Fraction}
+      (taking : Taking (gainedIn base k set (both nums₀ dens₀) (both form-nums form-dens)) base (base + COLUMNS) set c rest nums₀ dens₀ nums dens)
+      (more : c < COLUMNS) (first : Next rest 0 at) (formed : form ≡ heldAt form-nums form-dens at) where
     form-good : Good form
     form-good = let most = first .most in first-good (asked .form-row) formed (omega arith)
 
@@ -46,7 +50,8 @@ module _ {base : ℕ} {k : Fraction} {nums₀ dens₀ form-nums form-dens : List
         ∙ ap₂ (gainedBy (value k)) (column-first form-nums form-dens at (omega arith) ∙ sym (ap value formed)) (column-held nums₀ dens₀ base at (omega arith))
 
     -- Where the form holds 0 the number stands.
-    pub gaining-passes : {after : ℕ} → Rest rest after → ofZ w32 (form .num) ≡ ofZ w32 (pos 0) → Taking (gainedIn base k set (both nums₀ dens₀) (both form-nums form-dens)) base (base + COLUMNS) set (at + 1) after nums₀ dens₀ nums dens
+    pub gaining-passes : {after : ℕ} → Rest rest after → ofZ w32 (form .num) ≡ ofZ w32 (pos 0)
+        → Taking (gainedIn base k set (both nums₀ dens₀) (both form-nums form-dens)) base (base + COLUMNS) set (at + 1) after nums₀ dens₀ nums dens
     gaining-passes others none =
         let most = first .most in
         taking-passes taking more first others
@@ -63,11 +68,16 @@ module _ {base : ℕ} {k : Fraction} {nums₀ dens₀ form-nums form-dens : List
             subst (Answers r) (ap (λ x. gainedBy (value k) (value form) (value x)) (read ∙ going-reads (taking .going) (taking-next taking more first)) ∙ sym gains) answers
 
         -- It is stored, and the loop goes on; or it is refused, and the loop is over.
-        pub gaining-stores : {after : ℕ} {f : Fraction} {nums′ dens′ : List ℤ} → Rest rest after → r ≡ Fits f → nums′ ≡ stored-at nums (base + at) (f .num) → dens′ ≡ stored-at dens (base + at) (f .den) → Taking (gainedIn base k set (both nums₀ dens₀) (both form-nums form-dens)) base (base + COLUMNS) set (at + 1) after nums₀ dens₀ nums′ dens′
+        pub gaining-stores : {after : ℕ} {f : Fraction} {nums′ dens′ : List ℤ} → Rest rest after → r ≡ Fits f
+            → nums′ ≡ stored-at nums (base + at) (f .num) → dens′ ≡ stored-at dens (base + at) (f .den)
+            → Taking (gainedIn base k set (both nums₀ dens₀) (both form-nums form-dens)) base (base + COLUMNS) set (at + 1) after nums₀ dens₀ nums′ dens′
         gaining-stores others fits num den = taking-stores taking more first others column-answers fits refl num den
 
-        pub gaining-stops : {number : ℕ} → r ≡ Refused number → GainsRow base k set (both form-nums form-dens) (Stopped number) (both nums₀ dens₀) (both nums dens)
+        pub gaining-stops : {number : ℕ} → r ≡ Refused number
+            → GainsRow base k set (both form-nums form-dens) (Stopped number) (both nums₀ dens₀) (both nums dens)
         gaining-stops refused = record { row-made = taking-stops taking more first column-answers refused .row-made }
 
-  pub gaining-ends : {set c rest : ℕ} {nums dens : List ℤ} → Taking (gainedIn base k set (both nums₀ dens₀) (both form-nums form-dens)) base (base + COLUMNS) set c rest nums₀ dens₀ nums dens → COLUMNS ≤ c → GainsRow base k set (both form-nums form-dens) Done (both nums₀ dens₀) (both nums dens)
+  pub gaining-ends : {set c rest : ℕ} {nums dens : List ℤ}
+      → Taking (gainedIn base k set (both nums₀ dens₀) (both form-nums form-dens)) base (base + COLUMNS) set c rest nums₀ dens₀ nums dens
+      → COLUMNS ≤ c → GainsRow base k set (both form-nums form-dens) Done (both nums₀ dens₀) (both nums dens)
   gaining-ends taking end = record { row-made = taking-ends taking end .row-made }

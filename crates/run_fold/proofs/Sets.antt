@@ -32,12 +32,16 @@ use Rattle.run_table.proofs.Columns.{column-held, kept-row}
 use Rattle.run_table.proofs.Sparse.{zero-numerator, stirred-itself}
 use Rattle.run_table.proofs.Stirred.{within-kept}
 use Rattle.run_table.proofs.Turns.{finished-done}
-use Rattle.run_fold.specs.Contract.{SETS, PENDING, Notable, Noted, FoldableAt, FoldsAt, FoldableRow, FoldsRow}
+use Rattle.run_fold.specs.Contract.{PENDING, Notable, Noted, FoldableAt, FoldsAt, FoldableRow, FoldsRow}
 use Rattle.run_fold.proofs.Cells.{folded-solved}
 use Rattle.run_fold.proofs.Columns.{column-stands}
 
 -- The two stores of a noting.
-pub sets-noted : (t p set : ℕ) {sets : List ℕ} (both-sets columns pending : ℕ) → Notable t p sets → ((c : ℕ) → holds both-sets c ≡ (holds (getD sets t 0) c || holds set c)) → ((c : ℕ) → holds columns c ≡ (not (eqb c p) && holds both-sets c)) → ((j : ℕ) → holds pending j ≡ (holds (getD sets PENDING 0) j || holds (getD sets (TERMS + t) 0) j)) → Noted t p set sets (stored (stored sets t columns) PENDING pending)
+pub sets-noted : (t p set : ℕ) {sets : List ℕ} (both-sets columns pending : ℕ) → Notable t p sets
+    → ((c : ℕ) → holds both-sets c ≡ (holds (getD sets t 0) c || holds set c))
+    → ((c : ℕ) → holds columns c ≡ (not (eqb c p) && holds both-sets c))
+    → ((j : ℕ) → holds pending j ≡ (holds (getD sets PENDING 0) j || holds (getD sets (TERMS + t) 0) j))
+    → Noted t p set sets (stored (stored sets t columns) PENDING pending)
 unfolding columnsOf usersOf pendingOf
 sets-noted t p set {sets} both-sets columns pending asked union without woken =
     let small = asked .row in
@@ -58,7 +62,8 @@ unfolding zeroℚ whole
 numerator-zero good none = sym (value-num good) ∙ ap (λ q. q .num) none
 
 -- A row that is done holds what the rule makes of each column.
-column-made : {g : ℕ → Made ℕ ℚ} {base m : ℕ} {step : Step} {nums₀ dens₀ nums dens : List ℤ} → RowMade g base m step nums₀ dens₀ nums dens → step ≡ Done → (c : ℕ) → c < COLUMNS → g c ≡ made (value (heldAt nums dens (base + c)))
+column-made : {g : ℕ → Made ℕ ℚ} {base m : ℕ} {step : Step} {nums₀ dens₀ nums dens : List ℤ} → RowMade g base m step nums₀ dens₀ nums dens
+    → step ≡ Done → (c : ℕ) → c < COLUMNS → g c ≡ made (value (heldAt nums dens (base + c)))
 unfolding row column
 column-made {g} {base} {nums = nums} {dens} turn done c below =
     let all : row g ≡ made (rowAt nums dens base) = finished-done (turn .ends) done in
@@ -71,7 +76,9 @@ in-neither false false there e h = (refl, h)
 in-neither false true there e h = absurd (true≢false h)
 
 -- After a fold a row is within its set and the form's, without p: elsewhere 0 gains nothing, and in column p it is made 0.
-folded-within : {base p set before after : ℕ} {form : Lists} {step : Step} {nums₀ dens₀ nums dens : List ℤ} → FoldableAt base p set (both nums₀ dens₀) form → FoldsAt base p form step (both nums₀ dens₀) (both nums dens) → step ≡ Done → ((c : ℕ) → holds after c ≡ (not (eqb c p) && (holds before c || holds set c))) → Within before base nums₀ → Within after base nums
+folded-within : {base p set before after : ℕ} {form : Lists} {step : Step} {nums₀ dens₀ nums dens : List ℤ}
+    → FoldableAt base p set (both nums₀ dens₀) form → FoldsAt base p form step (both nums₀ dens₀) (both nums dens) → step ≡ Done
+    → ((c : ℕ) → holds after c ≡ (not (eqb c p) && (holds before c || holds set c))) → Within before base nums₀ → Within after base nums
 folded-within {base} {p} {set} {before} {after} {form} {nums₀ = nums₀} {dens₀} {nums} {dens} asked folds done noted was =
     record { zero = λ c below out. numerator-zero (folds .row-made .sound .good (base + c) (omega arith)) (by c below out (ℕ-discrete c p)) }
   where
@@ -95,16 +102,19 @@ rows-apart s t other = by (decLt s t)
     by (yes before) = inl (omega arith)
     by (no after) = inr (omega arith)
 
-module _ {n t p set : ℕ} {form : Lists} {step : Step} {old new : Work} (below : t < n) (asked : FoldableRow t p set form old) (folds : FoldsRow t p set form step old new) where
+module _ {n t p set : ℕ} {form : Lists} {step : Step} {old new : Work} (below : t < n) (asked : FoldableRow t p set form old)
+    (folds : FoldsRow t p set form step old new) where
   -- What the fold of row t leaves of the sets: of row t, if it was not passed over, the users are pending.
   pub row-stirred : Stirred n (old .nums) (old .dens) (new .nums) (new .dens) (old .sets) (new .sets)
   row-stirred = how (folds .noted)
     where
-      woken : Noted t p set (old .sets) (new .sets) → (s : ℕ) → Dec (s ≡ t) → (rowAt (new .nums) (new .dens) (COLUMNS * s) ≡ rowAt (old .nums) (old .dens) (COLUMNS * s)) ⊎ ((j : ℕ) → holds (usersOf (old .sets) s) j ≡ true → holds (pendingOf (new .sets)) j ≡ true)
+      woken : Noted t p set (old .sets) (new .sets) → (s : ℕ) → Dec (s ≡ t)
+          → (rowAt (new .nums) (new .dens) (COLUMNS * s) ≡ rowAt (old .nums) (old .dens) (COLUMNS * s)) ⊎ ((j : ℕ) → holds (usersOf (old .sets) s) j ≡ true → holds (pendingOf (new .sets)) j ≡ true)
       woken noted s (yes same) = inr (λ j h. noted .pending j ∙ ap (λ b. holds (pendingOf (old .sets)) j || b) (ap (λ x. holds (usersOf (old .sets) x) j) (sym same) ∙ h) ∙ or-true (holds (pendingOf (old .sets)) j))
       woken noted s (no other) = inl (kept-row (folds .columns .row-made .kept) (COLUMNS * s) (rows-apart s t other))
 
-      how : (new ≡ old) ⊎ Noted t p set (old .sets) (new .sets) → Stirred n (old .nums) (old .dens) (new .nums) (new .dens) (old .sets) (new .sets)
+      how : (new ≡ old) ⊎ Noted t p set (old .sets) (new .sets)
+          → Stirred n (old .nums) (old .dens) (new .nums) (new .dens) (old .sets) (new .sets)
       how (inl same) = rw same (stirred-itself n (old .nums) (old .dens) (old .sets))
       how (inr noted) =
           let small = asked .term in
@@ -120,7 +130,8 @@ module _ {n t p set : ℕ} {form : Lists} {step : Step} {old new : Work} (below 
   unfolding columnsOf
   row-sparse few done sparse = how (folds .noted)
     where
-      by : Noted t p set (old .sets) (new .sets) → (s : ℕ) → s < n → Dec (s ≡ t) → Within (columnsOf (new .sets) s) (COLUMNS * s) (new .nums)
+      by : Noted t p set (old .sets) (new .sets) → (s : ℕ) → s < n → Dec (s ≡ t)
+          → Within (columnsOf (new .sets) s) (COLUMNS * s) (new .nums)
       by noted s inside (yes same) = rw same (folded-within (asked .columns) (folds .columns) done (noted .columns) (sparse .within t below))
       by noted s inside (no other) = rw (noted .others s other (λ e. omega arith)) (within-kept (folds .columns .row-made .kept) (rows-apart s t other) (sparse .within s inside))
 

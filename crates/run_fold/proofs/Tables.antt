@@ -17,7 +17,7 @@ use Rattle.fraction.specs.Exact.{value}
 use Rattle.fraction.specs.Made.{made, tab}
 use Rattle.fraction.proofs.Making.{tab-stopped}
 use Rattle.fraction_reduce.proofs.Tests.{zero-value}
-use Rattle.rules_run.specs.Row.{TERMS, COLUMNS, PLACES, row, rowOf}
+use Rattle.rules_run.specs.Row.{COLUMNS, row, rowOf}
 use Rattle.rules_run.specs.Merge.{foldedColumn, folded}
 use Rattle.run_table.specs.declared.Step.{Step}
 use Rattle.run_table.specs.declared.Step.the-variants.{Done, Refused}
@@ -32,7 +32,7 @@ use Rattle.run_table.proofs.Rows.{tab-listed}
 use Rattle.run_table.proofs.Sparse.{zero-numerator, stirred-itself}
 use Rattle.run_table.proofs.Stirred.{stirred-then}
 use Rattle.run_table.proofs.Turns.{finished-done, finished-refused, refused-not-done}
-use Rattle.run_fold.specs.Contract.{SETS, Noted, FoldableAt, FoldsAt, FoldableRow, FoldsRow, Passable, Passed, Foldable, Folds}
+use Rattle.run_fold.specs.Contract.{Noted, FoldableAt, FoldsAt, FoldableRow, FoldsRow, Passable, Passed, Foldable, Folds}
 use Rattle.run_fold.proofs.Columns.{row-passed}
 use Rattle.run_fold.proofs.Sets.{row-stirred, row-sparse}
 
@@ -40,7 +40,8 @@ use Rattle.run_fold.proofs.Sets.{row-stirred, row-sparse}
 pub passed-starts : {n p from : ℕ} {nums : List ℤ} → Passable n p from nums → Passed n p from from nums
 passed-starts asked = record { forward = omega arith; most = asked .from-here; nothing = λ t above below. absurd (omega arith) }
 
-pub passed-more : {n p from t : ℕ} {nums : List ℤ} → t < n → getD nums (COLUMNS * t + p) (pos 0) ≡ pos 0 → Passed n p from t nums → Passed n p from (t + 1) nums
+pub passed-more : {n p from t : ℕ} {nums : List ℤ} → t < n → getD nums (COLUMNS * t + p) (pos 0) ≡ pos 0 → Passed n p from t nums
+    → Passed n p from (t + 1) nums
 passed-more {p = p} {from} {t} {nums} below none passed =
     record { forward = omega (arith, passed .forward); most = omega arith; nothing = λ s above less. by s above less (ℕ-discrete s t) }
   where
@@ -49,13 +50,16 @@ passed-more {p = p} {from} {t} {nums} below none passed =
     by s above less (no other) = passed .nothing s above (omega arith)
 
 -- A row whose coefficient at p is 0 is passed over; another is folded, and that is noted.
-pub fold-passes : {t p set : ℕ} {form : Lists} {w : Work} {k : Fraction} → FoldableRow t p set form w → k ≡ heldAt (w .nums) (w .dens) (COLUMNS * t + p) → ofZ w32 (k .num) ≡ ofZ w32 (pos 0) → FoldsRow t p set form Done w w
+pub fold-passes : {t p set : ℕ} {form : Lists} {w : Work} {k : Fraction} → FoldableRow t p set form w
+    → k ≡ heldAt (w .nums) (w .dens) (COLUMNS * t + p) → ofZ w32 (k .num) ≡ ofZ w32 (pos 0) → FoldsRow t p set form Done w w
 fold-passes asked read none =
     let term = asked .columns .unknown .term in
     let good = read-good (asked .columns .row) read (omega arith) in
     record { columns = row-passed (asked .columns) (ap value (sym read) ∙ zero-value good none); noted = inl refl }
 
-pub fold-notes : {t p set : ℕ} {form : Lists} {step : Step} {old new : Work} → FoldsAt (COLUMNS * t) p form step (both (old .nums) (old .dens)) (both (new .nums) (new .dens)) → Noted t p set (old .sets) (new .sets) → FoldsRow t p set form step old new
+pub fold-notes : {t p set : ℕ} {form : Lists} {step : Step} {old new : Work}
+    → FoldsAt (COLUMNS * t) p form step (both (old .nums) (old .dens)) (both (new .nums) (new .dens))
+    → Noted t p set (old .sets) (new .sets) → FoldsRow t p set form step old new
 fold-notes columns noted = record { columns = columns; noted = inr noted }
 
 -- In the loop over the rows: those below t are folded as the rule folds the table at entry, nothing from row t on has changed, all are
@@ -63,7 +67,8 @@ fold-notes columns noted = record { columns = columns; noted = inr noted }
 pub record Folding (n p : ℕ) (form : Lists) (t : ℕ) (old new : Work) : Type 0 where
   pub most : t ≤ n
   pub kept : Kept 0 (COLUMNS * t) (old .nums) (old .dens) (new .nums) (new .dens)
-  pub folded-below : (s : ℕ) → s < t → row (foldedColumn p (rowIn form 0) (rowOf (tableOf n old) s)) ≡ made (rowAt (new .nums) (new .dens) (COLUMNS * s))
+  pub folded-below : (s : ℕ) → s < t
+      → row (foldedColumn p (rowIn form 0) (rowOf (tableOf n old) s)) ≡ made (rowAt (new .nums) (new .dens) (COLUMNS * s))
   pub sound : SoundTo (COLUMNS * n) (new .nums) (new .dens)
   pub sparse : Sparse n (new .nums) (new .sets)
   pub stirred : Stirred n (old .nums) (old .dens) (new .nums) (new .dens) (old .sets) (new .sets)
@@ -132,7 +137,8 @@ module _ {n p set : ℕ} {form : Lists} {old : Work} (asked : Foldable n p set f
             stirred = all-stirred;
           }
         where
-          by : (s : ℕ) → s < t + 1 → Dec (s ≡ t) → row (foldedColumn p (rowIn form 0) (rowOf (tableOf n old) s)) ≡ made (rowAt (w′ .nums) (w′ .dens) (COLUMNS * s))
+          by : (s : ℕ) → s < t + 1 → Dec (s ≡ t)
+              → row (foldedColumn p (rowIn form 0) (rowOf (tableOf n old) s)) ≡ made (rowAt (w′ .nums) (w′ .dens) (COLUMNS * s))
           by s less (yes same) = rw same (finished-done row-read done)
           by s less (no other) = folding .folded-below s (omega arith) ∙ ap made (sym (kept-row (folds .columns .row-made .kept) (COLUMNS * s) (inl (omega arith))))
 
@@ -164,7 +170,8 @@ module _ {n p set : ℕ} {form : Lists} {old : Work} (asked : Foldable n p set f
           stirred = folding .stirred;
         }
       where
-        by : (s : ℕ) → s < r → Dec (s < t) → row (foldedColumn p (rowIn form 0) (rowOf (tableOf n old) s)) ≡ made (rowAt (w .nums) (w .dens) (COLUMNS * s))
+        by : (s : ℕ) → s < r → Dec (s < t)
+            → row (foldedColumn p (rowIn form 0) (rowOf (tableOf n old) s)) ≡ made (rowAt (w .nums) (w .dens) (COLUMNS * s))
         by s below (yes before) = folding .folded-below s before
         by s below (no after) =
             let inside : s < n = omega (arith, passed .most) in
@@ -174,11 +181,13 @@ module _ {n p set : ℕ} {form : Lists} {old : Work} (asked : Foldable n p set f
             ∙ row-passed (foldable s inside) none .row-made .ends
 
   -- A row is folded, and those behind it that hold 0 at p are passed over.
-  pub folding-goes-on : {t r : ℕ} {w w′ : Work} {step : Step} → Folding n p form t old w → t < n → FoldsRow t p set form step w w′ → step ≡ Done → Passed n p (t + 1) r (w′ .nums) → Folding n p form r old w′
+  pub folding-goes-on : {t r : ℕ} {w w′ : Work} {step : Step} → Folding n p form t old w → t < n → FoldsRow t p set form step w w′
+      → step ≡ Done → Passed n p (t + 1) r (w′ .nums) → Folding n p form r old w′
   folding-goes-on folding below folds done passed = passes (one-more folding below folds done) passed
 
   -- The rows behind a folded one can be looked at for p.
-  pub folding-seeks : {t : ℕ} {w : Work} {step : Step} {nums dens : List ℤ} {sets : List ℕ} → Folding n p form t old w → t < n → FoldsRow t p set form step w (record { nums = nums; dens = dens; sets = sets }) → Passable n p (t + 1) nums
+  pub folding-seeks : {t : ℕ} {w : Work} {step : Step} {nums dens : List ℤ} {sets : List ℕ} → Folding n p form t old w → t < n
+      → FoldsRow t p set form step w (record { nums = nums; dens = dens; sets = sets }) → Passable n p (t + 1) nums
   folding-seeks folding below folds =
       let rows = asked .rows in
       record {

@@ -25,7 +25,8 @@ fold-rows-unique κs (_, (_, (n, _))) x y end end′ first second =
     (table-same-end n (first .ends) (second .ends) (first .kept) (second .kept) (first .sound) (second .sound), stirred-alike (first .stirred) (second .stirred))
 
 -- What `note` ensures fixes the sets.
-pub noted-unique : {t p set : ℕ} {sets₀ sets sets′ : List ℕ} → ((k : ℕ) → getD sets k 0 < 2 ^ 64) → ((k : ℕ) → getD sets′ k 0 < 2 ^ 64) → Noted t p set sets₀ sets → Noted t p set sets₀ sets′ → sets ≡ sets′
+pub noted-unique : {t p set : ℕ} {sets₀ sets sets′ : List ℕ} → ((k : ℕ) → getD sets k 0 < 2 ^ 64) → ((k : ℕ) → getD sets′ k 0 < 2 ^ 64)
+    → Noted t p set sets₀ sets → Noted t p set sets₀ sets′ → sets ≡ sets′
 unfolding columnsOf pendingOf
 noted-unique {t} {sets = sets} {sets′} small small′ first second =
     ext-getD 0 sets sets′ (first .same-length ∙ sym (second .same-length)) (λ k below. by k (ℕ-discrete k t) (ℕ-discrete k PENDING))

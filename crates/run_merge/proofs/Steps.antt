@@ -4,7 +4,7 @@
 use mathlib.Core.Path.{_≡_, refl, sym, ap, ap₂, _∙_}
 use mathlib.Core.Bool.{_||_}
 use mathlib.Core.List.{List}
-use mathlib.Core.Option.{some, none}
+use mathlib.Core.Option.{none}
 use Prim.Native.Nat.{ℕ, _*_}
 use native.Mathlib.Nat.{zero-add}
 use native.Mathlib.Omega.{arith}
@@ -115,11 +115,13 @@ module _ {n p set : ℕ} {nums dens : List ℤ} {w : Work} (asked : Solvable n p
           }
 
 -- The difference is settled by the unknown found, and where there is none by the constant.
-module _ {n set : ℕ} {nums dens : List ℤ} {w : Work} {found : Found} (asked : Settleable n set (both nums dens) w) (pivots : Pivots set (both nums dens) found) where
+module _ {n set : ℕ} {nums dens : List ℤ} {w : Work} {found : Found} (asked : Settleable n set (both nums dens) w)
+    (pivots : Pivots set (both nums dens) found) where
   pub settle-solves : {p : ℕ} → found ≡ At p → Solvable n p set (both nums dens) w
   settle-solves at = record { unknown = pivots .unknown _ at; settleable = asked }
 
-  pub settles-solved : {p : ℕ} {r : Merged} {new : Work} → found ≡ At p → Solves n p (rowAt nums dens 0) r w new → Settles n (rowAt nums dens 0) r w new
+  pub settles-solved : {p : ℕ} {r : Merged} {new : Work} → found ≡ At p → Solves n p (rowAt nums dens 0) r w new
+      → Settles n (rowAt nums dens 0) r w new
   unfolding settle pivoted
   settles-solved at solves =
       let chosen = pivots .chosen ∙ ap pivoted at in
@@ -163,7 +165,8 @@ zeros-within =
 -- The terms are merged: the difference of their rows is taken, and settled.
 module _ {n t u : ℕ} {w : Work} (asked : Mergeable n t u w) where
   -- Neither row has a column outside the union of their sets.
-  pub merge-subtracts : (set : ℕ) → ((c : ℕ) → holds set c ≡ (holds (columnsOf (w .sets) t) c || holds (columnsOf (w .sets) u) c)) → Subtractable (COLUMNS * t) (COLUMNS * u) set (both (w .nums) (w .dens)) zeros
+  pub merge-subtracts : (set : ℕ) → ((c : ℕ) → holds set c ≡ (holds (columnsOf (w .sets) t) c || holds (columnsOf (w .sets) u) c))
+      → Subtractable (COLUMNS * t) (COLUMNS * u) set (both (w .nums) (w .dens)) zeros
   merge-subtracts set union =
       let left = columnsOf (w .sets) t in
       let right = columnsOf (w .sets) u in
@@ -174,7 +177,8 @@ module _ {n t u : ℕ} {w : Work} (asked : Mergeable n t u w) where
         zeros = zeros-within;
       }
 
-  module _ {set : ℕ} {step : Step} {nums₀ dens₀ nums dens : List ℤ} (subtracts : Subtracts (COLUMNS * t) (COLUMNS * u) set step (both (w .nums) (w .dens)) (both nums₀ dens₀) (both nums dens)) where
+  module _ {set : ℕ} {step : Step} {nums₀ dens₀ nums dens : List ℤ}
+      (subtracts : Subtracts (COLUMNS * t) (COLUMNS * u) set step (both (w .nums) (w .dens)) (both nums₀ dens₀) (both nums dens)) where
     pub merge-settles : RowWithin 0 0 (both nums₀ dens₀) → Settleable n set (both nums dens) w
     merge-settles blank =
         let kept = subtracts .row-made .kept in

@@ -37,7 +37,8 @@ merged-back Contradiction before table = refl
 merged-back (Refused number) before table = refl
 
 -- equal answers that do not stop leave equal tables, each with what is said of it
-table-back : (r : Merged) {P Q R : Type 0} (table table′ : Table) → merged r 0 table ≡ merged r 0 table′ → Unstopped r P → Unstopped r Q → (table ≡ table′ → P → Q → R) → Unstopped r R
+table-back : (r : Merged) {P Q R : Type 0} (table table′ : Table) → merged r 0 table ≡ merged r 0 table′ → Unstopped r P → Unstopped r Q
+    → (table ≡ table′ → P → Q → R) → Unstopped r R
 unfolding merged Unstopped
 table-back Nothing table table′ h p q k = let same : _≡_ {A = State} (record { table = table; solved = 0 }) (record { table = table′; solved = 0 }) = cc in k (ap (λ s. s .table) same) p q
 table-back Solved table table′ h p q k = let same : _≡_ {A = State} (record { table = table; solved = 1 }) (record { table = table′; solved = 1 }) = cc in k (ap (λ s. s .table) same) p q

@@ -1,6 +1,6 @@
 -- The unknown of the highest number, found going down through the columns of a set.
--- Main definition: `Seeking`, the loop's invariant. Main results: `pivot-below`, `pivot-found`, `pivot-passes`, `pivot-skips`, `pivot-nothing`,
--- `seeking-starts`, `seeking-finds`, `seeking-goes-on`, `seeking-ends`. Assume nothing.
+-- Main definition: `Seeking`, the loop's invariant. Main results: `seeking-starts`, `seeking-finds`, `seeking-goes-on`, `seeking-ends`.
+-- Assume nothing.
 use mathlib.Core.Path.{_≡_, refl, sym, ap, _∙_, subst}
 use mathlib.Core.Bool.{Bool, true, false}
 use mathlib.Core.List.{List}
@@ -40,12 +40,13 @@ module _ (d : Row) where
   unfolding pivot
   zero-passed c zero-there = rw zero-there
 
-  other-taken : (c : ℕ) → ((p : ℕ) → pivot byNumber c d ≡ some p → p < c) → eqℚ (column d c) zeroℚ ≡ false → pivot byNumber (suc c) d ≡ some c
+  other-taken : (c : ℕ) → ((p : ℕ) → pivot byNumber c d ≡ some p → p < c) → eqℚ (column d c) zeroℚ ≡ false
+      → pivot byNumber (suc c) d ≡ some c
   unfolding pivot
   other-taken c below other-there = rw other-there (higher-taken c (pivot byNumber c d) below)
 
   -- The unknown found is among the columns looked at.
-  pub pivot-below : (columns p : ℕ) → pivot byNumber columns d ≡ some p → p < columns
+  pivot-below : (columns p : ℕ) → pivot byNumber columns d ≡ some p → p < columns
   unfolding pivot
   pivot-below zero p h = let no-way : _≡_ {A = ℕ} 0 1 = cc in omega arith
   pivot-below (suc c) p h = by (pivot-below c) (eqℚ (column d c) zeroℚ) refl
@@ -55,32 +56,33 @@ module _ (d : Row) where
       by below false there = let same : p ≡ c = cc (other-taken c below there) in omega arith
 
   -- Where the last column is not zero, its unknown is found; where it is zero, it is passed.
-  pub pivot-found : (c : ℕ) → 0 < c → eqℚ (column d (c - 1)) zeroℚ ≡ false → pivot byNumber c d ≡ some (c - 1)
+  pivot-found : (c : ℕ) → 0 < c → eqℚ (column d (c - 1)) zeroℚ ≡ false → pivot byNumber c d ≡ some (c - 1)
   pivot-found zero above there = absurd (omega arith)
   pivot-found (suc c) above there =
       let e : suc c - 1 ≡ c = omega arith in
       rw e (other-taken c (pivot-below c) (rw e at there))
 
-  pub pivot-passes : (c : ℕ) → 0 < c → eqℚ (column d (c - 1)) zeroℚ ≡ true → pivot byNumber c d ≡ pivot byNumber (c - 1) d
+  pivot-passes : (c : ℕ) → 0 < c → eqℚ (column d (c - 1)) zeroℚ ≡ true → pivot byNumber c d ≡ pivot byNumber (c - 1) d
   pivot-passes zero above there = absurd (omega arith)
   pivot-passes (suc c) above there =
       let e : suc c - 1 ≡ c = omega arith in
       rw e (zero-passed c (rw e at there))
 
   -- So columns that are all zero are passed at once.
-  pub pivot-skips : (c e : ℕ) → e ≤ c → ((k : ℕ) → e ≤ k → k < c → eqℚ (column d k) zeroℚ ≡ true) → pivot byNumber c d ≡ pivot byNumber e d
+  pivot-skips : (c e : ℕ) → e ≤ c → ((k : ℕ) → e ≤ k → k < c → eqℚ (column d k) zeroℚ ≡ true) → pivot byNumber c d ≡ pivot byNumber e d
   pivot-skips zero e less zeros =
       let same : e ≡ zero = omega arith in
       ap (λ k. pivot byNumber k d) (sym same)
   pivot-skips (suc c) e less zeros = by (pivot-skips c e) (decLt c e)
     where
-      by : (e ≤ c → ((k : ℕ) → e ≤ k → k < c → eqℚ (column d k) zeroℚ ≡ true) → pivot byNumber c d ≡ pivot byNumber e d) → Dec (c < e) → pivot byNumber (suc c) d ≡ pivot byNumber e d
+      by : (e ≤ c → ((k : ℕ) → e ≤ k → k < c → eqℚ (column d k) zeroℚ ≡ true) → pivot byNumber c d ≡ pivot byNumber e d) → Dec (c < e)
+          → pivot byNumber (suc c) d ≡ pivot byNumber e d
       by rest (yes all) =
           let same : e ≡ suc c = omega arith in
           ap (λ k. pivot byNumber k d) (sym same)
       by rest (no more) = zero-passed c (zeros c (omega arith) (omega arith)) ∙ rest (omega arith) (λ k above below. zeros k above (omega arith))
 
-  pub pivot-nothing : pivot byNumber 0 d ≡ none
+  pivot-nothing : pivot byNumber 0 d ≡ none
   unfolding pivot
   pivot-nothing = refl
 

@@ -43,14 +43,17 @@ module _ (p : ℕ) (d : Row) (c : ℕ) where
       solved-other other ∙ ap (times (negℚ (inverse (column d p)))) none ∙ ap tested (times-zero (negℚ (inverse (column d p)))) ∙ zero-passes
 
 -- What stands for the opposite of what stands for a number stands for its opposite.
-pub factor-stands : {q : ℚ} {inverted factor : Fraction} → Stands inverted q → Stands factor (negℚ (value inverted)) → Stands factor (negℚ q)
+pub factor-stands : {q : ℚ} {inverted factor : Fraction} → Stands inverted q → Stands factor (negℚ (value inverted))
+    → Stands factor (negℚ q)
 factor-stands divided negated = record { good = negated .good; same = negated .same ∙ ap negℚ (divided .same) }
 
 -- Times -1 is the opposite, and times 1 the number itself.
-pub scaled-minus : {factor x f : Fraction} → Scalable factor x → ofZ w32 (factor .num) ≡ ofZ w32 (negsuc 0) → ofZ w32 (factor .den) ≡ ofZ w32 (pos 1) → Stands f (negℚ (value x)) → Answers (Fits f) (times (value factor) (value x))
+pub scaled-minus : {factor x f : Fraction} → Scalable factor x → ofZ w32 (factor .num) ≡ ofZ w32 (negsuc 0)
+    → ofZ w32 (factor .den) ≡ ofZ w32 (pos 1) → Stands f (negℚ (value x)) → Answers (Fits f) (times (value factor) (value x))
 scaled-minus asked num den opposite =
     times-minus (asked .factor-good) (asked .number-good) (word-is (negsuc 0) tt (good-num (asked .factor-good)) num) (word-is (pos 1) tt (good-den (asked .factor-good)) den) opposite
 
-pub scaled-one : {factor x : Fraction} → Scalable factor x → ofZ w32 (factor .num) ≡ ofZ w32 (pos 1) → ofZ w32 (factor .den) ≡ ofZ w32 (pos 1) → Answers (Fits x) (times (value factor) (value x))
+pub scaled-one : {factor x : Fraction} → Scalable factor x → ofZ w32 (factor .num) ≡ ofZ w32 (pos 1)
+    → ofZ w32 (factor .den) ≡ ofZ w32 (pos 1) → Answers (Fits x) (times (value factor) (value x))
 scaled-one asked num den =
     times-one (asked .factor-good) (asked .number-good) (word-is (pos 1) tt (good-num (asked .factor-good)) num) (word-is (pos 1) tt (good-den (asked .factor-good)) den)

@@ -31,10 +31,13 @@ module _ {factor : Fraction} {set : ℕ} {nums₀ dens₀ : List ℤ} (asked : S
       let held = asked .row .held in
       taking-starts (held .nums-fit) (held .dens-fit) (omega arith) (held .sound) (reached-leaves (scaledColumn (value factor) (rowAt nums₀ dens₀ 0)) set 0 nums₀ dens₀)
 
-  over : {step : Step} {nums dens : List ℤ} → Gone (scaledIn factor set (both nums₀ dens₀)) 0 COLUMNS set step nums₀ dens₀ nums dens → ScalesRow factor set step (both nums₀ dens₀) (both nums dens)
+  over : {step : Step} {nums dens : List ℤ} → Gone (scaledIn factor set (both nums₀ dens₀)) 0 COLUMNS set step nums₀ dens₀ nums dens
+      → ScalesRow factor set step (both nums₀ dens₀) (both nums dens)
   over gone = record { row-made = gone .row-made; within = gone-within gone (asked .row .within) }
 
-  module _ {c rest at : ℕ} {nums dens : List ℤ} {x : Fraction} (taking : Taking (scaledIn factor set (both nums₀ dens₀)) 0 COLUMNS set c rest nums₀ dens₀ nums dens) (more : c < COLUMNS) (first : Next rest 0 at) (read : x ≡ heldAt nums dens at) where
+  module _ {c rest at : ℕ} {nums dens : List ℤ} {x : Fraction}
+      (taking : Taking (scaledIn factor set (both nums₀ dens₀)) 0 COLUMNS set c rest nums₀ dens₀ nums dens) (more : c < COLUMNS)
+      (first : Next rest 0 at) (read : x ≡ heldAt nums dens at) where
     pub scaling-asks : Scalable factor x
     scaling-asks = record { factor-good = asked .factor-good; number-good = going-good (taking .going) (taking-next taking more first) (sym (zero-add at)) read }
 
@@ -52,11 +55,15 @@ module _ {factor : Fraction} {set : ℕ} {nums₀ dens₀ : List ℤ} (asked : S
           answers
 
       -- It is stored, and the loop goes on; or it is refused, and the loop is over.
-      pub scaling-stores : {after : ℕ} {f : Fraction} {nums′ dens′ : List ℤ} → Rest rest after → r ≡ Fits f → nums′ ≡ stored-at nums at (f .num) → dens′ ≡ stored-at dens at (f .den) → Taking (scaledIn factor set (both nums₀ dens₀)) 0 COLUMNS set (at + 1) after nums₀ dens₀ nums′ dens′
+      pub scaling-stores : {after : ℕ} {f : Fraction} {nums′ dens′ : List ℤ} → Rest rest after → r ≡ Fits f
+          → nums′ ≡ stored-at nums at (f .num) → dens′ ≡ stored-at dens at (f .den)
+          → Taking (scaledIn factor set (both nums₀ dens₀)) 0 COLUMNS set (at + 1) after nums₀ dens₀ nums′ dens′
       scaling-stores others fits num den = taking-stores taking more first others column-answers fits (sym (zero-add at)) num den
 
       pub scaling-stops : {number : ℕ} → r ≡ Refused number → ScalesRow factor set (Stopped number) (both nums₀ dens₀) (both nums dens)
       scaling-stops refused = over (taking-stops taking more first column-answers refused)
 
-  pub scaling-ends : {c rest : ℕ} {nums dens : List ℤ} → Taking (scaledIn factor set (both nums₀ dens₀)) 0 COLUMNS set c rest nums₀ dens₀ nums dens → COLUMNS ≤ c → ScalesRow factor set Done (both nums₀ dens₀) (both nums dens)
+  pub scaling-ends : {c rest : ℕ} {nums dens : List ℤ}
+      → Taking (scaledIn factor set (both nums₀ dens₀)) 0 COLUMNS set c rest nums₀ dens₀ nums dens → COLUMNS ≤ c
+      → ScalesRow factor set Done (both nums₀ dens₀) (both nums dens)
   scaling-ends taking end = over (taking-ends taking end)

@@ -13,7 +13,7 @@ use lib.IntN.{ℤ, pos}
 use lib.ListN.{getD, set as stored-at}
 use Rattle.set_members.specs.Sets.{holds}
 use Rattle.fraction.specs.declared.Fraction.{Fraction}
-use Rattle.fraction.specs.Exact.{value, zeroℚ, negℚ, inverse}
+use Rattle.fraction.specs.Exact.{value, negℚ, inverse}
 use Rattle.fraction.specs.Limits.{times}
 use Rattle.fraction.specs.Made.{made}
 use Rattle.fraction_reduce.specs.Values.{Good, Stands}
@@ -36,7 +36,8 @@ module _ {p set : ℕ} {nums₀ dens₀ : List ℤ} (asked : Formable p set (bot
   pub form-reads : {k : Fraction} → k ≡ heldAt nums₀ dens₀ p → Good k
   form-reads here = let term = asked .unknown .term in first-good (asked .row .held) here (omega arith)
 
-  module _ {nums₁ dens₁ : List ℤ} (num : nums₁ ≡ stored-at nums₀ p (pos 0)) (den : dens₁ ≡ stored-at dens₀ p (pos 1)) (others : ℕ) (without : (c : ℕ) → holds others c ≡ (not (eqb c p) && holds set c)) where
+  module _ {nums₁ dens₁ : List ℤ} (num : nums₁ ≡ stored-at nums₀ p (pos 0)) (den : dens₁ ≡ stored-at dens₀ p (pos 1)) (others : ℕ)
+      (without : (c : ℕ) → holds others c ≡ (not (eqb c p) && holds set c)) where
     -- 0 stands in the column of the unknown.
     stored : Stored p (record { num = pos 0; den = pos 1 }) nums₀ dens₀ nums₁ dens₁
     stored =
@@ -73,7 +74,9 @@ module _ {p set : ℕ} {nums₀ dens₀ : List ℤ} (asked : Formable p set (bot
         }
 
     -- Multiplied by what divides by the coefficient and negates, the other columns are the form's; where the difference holds 0, so does the form.
-    pub form-made : {k factor : Fraction} {step : Step} {nums dens : List ℤ} → k ≡ heldAt nums₀ dens₀ p → Stands factor (negℚ (inverse (value k))) → ScalesRow factor others step (both nums₁ dens₁) (both nums dens) → Forms p set step (both nums₀ dens₀) (both nums dens)
+    pub form-made : {k factor : Fraction} {step : Step} {nums dens : List ℤ} → k ≡ heldAt nums₀ dens₀ p
+        → Stands factor (negℚ (inverse (value k))) → ScalesRow factor others step (both nums₁ dens₁) (both nums dens)
+        → Forms p set step (both nums₀ dens₀) (both nums dens)
     unfolding scaledColumn
     form-made {k} {factor} divisor stands scales =
         let d = rowAt nums₀ dens₀ 0 in

@@ -36,7 +36,8 @@ pub first-good : {at : ℕ} {l : Lists} {x : Fraction} → RowHeld 0 l → x ≡
 first-good {at} held here most = subst Good (sym here) (held .sound .good at (omega arith))
 
 -- A term's column outside the set is 0.
-pub column-nothing : {set base : ℕ} {l : Lists} → RowWithin set base l → (c : ℕ) → c < TERMS → holds set c ≡ false → column (rowIn l base) c ≡ zeroℚ
+pub column-nothing : {set base : ℕ} {l : Lists} → RowWithin set base l → (c : ℕ) → c < TERMS → holds set c ≡ false
+    → column (rowIn l base) c ≡ zeroℚ
 column-nothing {base = base} {l} row c below out =
     column-held (l .nums) (l .dens) base c (omega arith) ∙ within-value c (row .within) (row .held .sound) (omega arith) below out
 

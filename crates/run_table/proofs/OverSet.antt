@@ -7,7 +7,6 @@ use mathlib.Core.Logic.{inr, _≢_}
 use mathlib.Core.Bool.{false, false≢true}
 use mathlib.Core.List.{List}
 use Prim.Native.Nat.{ℕ, _+_, _-_, _≤_, _<_}
-use native.Mathlib.Decide.{ℕ-discrete}
 use native.Mathlib.Omega.{arith}
 use lib.ListN.{length, set as stored-at}
 use lib.IntN.{ℤ}
@@ -60,7 +59,8 @@ pub record Gone (g : ℕ → rule.Made ℕ ℚ) (base m set : ℕ) (step : Step)
   pub spared : Spared set base nums₀ dens₀ nums dens
 
 module _ {g : ℕ → rule.Made ℕ ℚ} {base m set : ℕ} {nums₀ dens₀ : List ℤ} where
-  pub going-starts : base + COLUMNS ≤ length nums₀ → base + COLUMNS ≤ length dens₀ → base + COLUMNS ≤ m → SoundTo m nums₀ dens₀ → Leaves g set base nums₀ dens₀ → Going g base m set 0 nums₀ dens₀ nums₀ dens₀
+  pub going-starts : base + COLUMNS ≤ length nums₀ → base + COLUMNS ≤ length dens₀ → base + COLUMNS ≤ m → SoundTo m nums₀ dens₀
+      → Leaves g set base nums₀ dens₀ → Going g base m set 0 nums₀ dens₀ nums₀ dens₀
   going-starts nums-fit dens-fit sound-fit sound leaves =
       record {
         reach = omega arith;
@@ -91,7 +91,9 @@ module _ {g : ℕ → rule.Made ℕ ℚ} {base m set : ℕ} {nums₀ dens₀ : L
         false≢true (sym out ∙ ap (holds set) here ∙ next .inside (omega arith))
 
     -- A turn stores what answers the rule's column: one column more is made.
-    pub going-stores : {r : Made} {f : Fraction} {place : ℕ} {nums′ dens′ : List ℤ} → Answers r (g at) → r ≡ Fits f → place ≡ base + at → nums′ ≡ stored-at nums place (f .num) → dens′ ≡ stored-at dens place (f .den) → Going g base m set (at + 1) nums₀ dens₀ nums′ dens′
+    pub going-stores : {r : Made} {f : Fraction} {place : ℕ} {nums′ dens′ : List ℤ} → Answers r (g at) → r ≡ Fits f → place ≡ base + at
+        → nums′ ≡ stored-at nums place (f .num) → dens′ ≡ stored-at dens place (f .den)
+        → Going g base m set (at + 1) nums₀ dens₀ nums′ dens′
     going-stores {f = f} {place} answers fits there num den =
         let kept = going .making .kept in
         let in-nums : place < length nums = omega (arith, next .most, going .nums-fit, kept .nums-length) in
@@ -120,18 +122,22 @@ module _ {g : ℕ → rule.Made ℕ ℚ} {base m set : ℕ} {nums₀ dens₀ : L
         }
 
     -- A turn is refused its column: so is the row.
-    pub going-stops : {r : Made} {number : ℕ} → Answers r (g at) → r ≡ Refused number → Gone g base m set (Stopped number) nums₀ dens₀ nums dens
+    pub going-stops : {r : Made} {number : ℕ} → Answers r (g at) → r ≡ Refused number
+        → Gone g base m set (Stopped number) nums₀ dens₀ nums dens
     going-stops answers refused = record { row-made = turn-stops going-skips answers refused (omega (arith, next .most)); spared = going .spared }
 
   -- After the constant's column the row is made.
-  pub going-ends : {c : ℕ} {nums dens : List ℤ} → Going g base m set c nums₀ dens₀ nums dens → COLUMNS ≤ c → Gone g base m set Done nums₀ dens₀ nums dens
+  pub going-ends : {c : ℕ} {nums dens : List ℤ} → Going g base m set c nums₀ dens₀ nums dens → COLUMNS ≤ c
+      → Gone g base m set Done nums₀ dens₀ nums dens
   going-ends going over = record { row-made = turns-end (going .making) (going .reach) over; spared = going .spared }
 
   -- The same of a loop that keeps the rest of the set.
-  pub taking-starts : base + COLUMNS ≤ length nums₀ → base + COLUMNS ≤ length dens₀ → base + COLUMNS ≤ m → SoundTo m nums₀ dens₀ → Leaves g set base nums₀ dens₀ → Taking g base m set 0 set nums₀ dens₀ nums₀ dens₀
+  pub taking-starts : base + COLUMNS ≤ length nums₀ → base + COLUMNS ≤ length dens₀ → base + COLUMNS ≤ m → SoundTo m nums₀ dens₀
+      → Leaves g set base nums₀ dens₀ → Taking g base m set 0 set nums₀ dens₀ nums₀ dens₀
   taking-starts nums-fit dens-fit sound-fit sound leaves = record { going = going-starts nums-fit dens-fit sound-fit sound leaves; from = from-starts set }
 
-  module _ {c rest at : ℕ} {nums dens : List ℤ} (taking : Taking g base m set c rest nums₀ dens₀ nums dens) (more : c < COLUMNS) (first : Next rest 0 at) where
+  module _ {c rest at : ℕ} {nums dens : List ℤ} (taking : Taking g base m set c rest nums₀ dens₀ nums dens) (more : c < COLUMNS)
+      (first : Next rest 0 at) where
     -- The least of the rest is the next of the set.
     pub taking-next : Next set c at
     taking-next = from-first (omega arith) (taking .from) first
@@ -147,19 +153,25 @@ module _ {g : ℕ → rule.Made ℕ ℚ} {base m set : ℕ} {nums₀ dens₀ : L
     pub taking-less : COLUMNS - (at + 1) < COLUMNS - c
     taking-less = omega (arith, taking-next .forward, first .most)
 
-    pub taking-stores : {after : ℕ} {r : Made} {f : Fraction} {place : ℕ} {nums′ dens′ : List ℤ} → Rest rest after → Answers r (g at) → r ≡ Fits f → place ≡ base + at → nums′ ≡ stored-at nums place (f .num) → dens′ ≡ stored-at dens place (f .den) → Taking g base m set (at + 1) after nums₀ dens₀ nums′ dens′
+    pub taking-stores : {after : ℕ} {r : Made} {f : Fraction} {place : ℕ} {nums′ dens′ : List ℤ} → Rest rest after → Answers r (g at)
+        → r ≡ Fits f → place ≡ base + at → nums′ ≡ stored-at nums place (f .num) → dens′ ≡ stored-at dens place (f .den)
+        → Taking g base m set (at + 1) after nums₀ dens₀ nums′ dens′
     taking-stores left answers fits there num den =
         record { going = going-stores (taking .going) taking-next answers fits there num den; from = from-rest (omega arith) (taking .from) first left }
 
-    pub taking-passes : {after : ℕ} → Rest rest after → g at ≡ rule.made (value (heldAt nums₀ dens₀ (base + at))) → Taking g base m set (at + 1) after nums₀ dens₀ nums dens
+    pub taking-passes : {after : ℕ} → Rest rest after → g at ≡ rule.made (value (heldAt nums₀ dens₀ (base + at)))
+        → Taking g base m set (at + 1) after nums₀ dens₀ nums dens
     taking-passes left stands = record { going = going-passes (taking .going) taking-next stands; from = from-rest (omega arith) (taking .from) first left }
 
-    pub taking-stops : {r : Made} {number : ℕ} → Answers r (g at) → r ≡ Refused number → Gone g base m set (Stopped number) nums₀ dens₀ nums dens
+    pub taking-stops : {r : Made} {number : ℕ} → Answers r (g at) → r ≡ Refused number
+        → Gone g base m set (Stopped number) nums₀ dens₀ nums dens
     taking-stops answers refused = going-stops (taking .going) taking-next answers refused
 
-  pub taking-ends : {c rest : ℕ} {nums dens : List ℤ} → Taking g base m set c rest nums₀ dens₀ nums dens → COLUMNS ≤ c → Gone g base m set Done nums₀ dens₀ nums dens
+  pub taking-ends : {c rest : ℕ} {nums dens : List ℤ} → Taking g base m set c rest nums₀ dens₀ nums dens → COLUMNS ≤ c
+      → Gone g base m set Done nums₀ dens₀ nums dens
   taking-ends taking over = going-ends (taking .going) over
 
 -- A row that was within the set before the loop is so after it.
-pub gone-within : {g : ℕ → rule.Made ℕ ℚ} {base m set : ℕ} {step : Step} {nums₀ dens₀ nums dens : List ℤ} → Gone g base m set step nums₀ dens₀ nums dens → Within set base nums₀ → Within set base nums
+pub gone-within : {g : ℕ → rule.Made ℕ ℚ} {base m set : ℕ} {step : Step} {nums₀ dens₀ nums dens : List ℤ}
+    → Gone g base m set step nums₀ dens₀ nums dens → Within set base nums₀ → Within set base nums
 gone-within gone within = record { zero = λ c below out. ap (λ f. f .num) (gone .spared .same c below out) ∙ within .zero c below out }

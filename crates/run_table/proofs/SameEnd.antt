@@ -30,7 +30,8 @@ pub record SameEnd (base end : ℕ) (r s : Step) (l m : Lists) : Type 0 where
   pub kept : Kept base end (l .nums) (l .dens) (m .nums) (m .dens)
 
 -- Lists that keep the places of the same lists keep each other's.
-pub kept-alike : {base end : ℕ} {nums₀ dens₀ nums dens nums′ dens′ : List ℤ} → Kept base end nums₀ dens₀ nums dens → Kept base end nums₀ dens₀ nums′ dens′ → Kept base end nums dens nums′ dens′
+pub kept-alike : {base end : ℕ} {nums₀ dens₀ nums dens nums′ dens′ : List ℤ} → Kept base end nums₀ dens₀ nums dens
+    → Kept base end nums₀ dens₀ nums′ dens′ → Kept base end nums dens nums′ dens′
 kept-alike first second =
     record {
       nums-length = second .nums-length ∙ sym (first .nums-length);
@@ -39,13 +40,18 @@ kept-alike first second =
     }
 
 -- A row that a rule makes ends one way.
-pub row-same-end : {g : ℕ → Made ℕ ℚ} {base m : ℕ} {r s : Step} {nums₀ dens₀ : List ℤ} {new new′ : Lists} → base + COLUMNS ≤ m → RowMade g base m r nums₀ dens₀ (new .nums) (new .dens) → RowMade g base m s nums₀ dens₀ (new′ .nums) (new′ .dens) → SameEnd base (base + COLUMNS) r s new new′
+pub row-same-end : {g : ℕ → Made ℕ ℚ} {base m : ℕ} {r s : Step} {nums₀ dens₀ : List ℤ} {new new′ : Lists} → base + COLUMNS ≤ m
+    → RowMade g base m r nums₀ dens₀ (new .nums) (new .dens) → RowMade g base m s nums₀ dens₀ (new′ .nums) (new′ .dens)
+    → SameEnd base (base + COLUMNS) r s new new′
 row-same-end room first second =
     let same = row-made-unique room first second in
     record { answer = same .0; done = same .1; kept = kept-alike (first .kept) (second .kept) }
 
 -- So does a table of n rows.
-pub table-same-end : {rule : Made ℕ Table} (n : ℕ) {r s : Step} {nums₀ dens₀ : List ℤ} {new new′ : Lists} → rule ≡ finished r (tableAt n (new .nums) (new .dens)) → rule ≡ finished s (tableAt n (new′ .nums) (new′ .dens)) → Kept 0 (COLUMNS * n) nums₀ dens₀ (new .nums) (new .dens) → Kept 0 (COLUMNS * n) nums₀ dens₀ (new′ .nums) (new′ .dens) → SoundTo (COLUMNS * n) (new .nums) (new .dens) → SoundTo (COLUMNS * n) (new′ .nums) (new′ .dens) → SameEnd 0 (COLUMNS * n) r s new new′
+pub table-same-end : {rule : Made ℕ Table} (n : ℕ) {r s : Step} {nums₀ dens₀ : List ℤ} {new new′ : Lists}
+    → rule ≡ finished r (tableAt n (new .nums) (new .dens)) → rule ≡ finished s (tableAt n (new′ .nums) (new′ .dens))
+    → Kept 0 (COLUMNS * n) nums₀ dens₀ (new .nums) (new .dens) → Kept 0 (COLUMNS * n) nums₀ dens₀ (new′ .nums) (new′ .dens)
+    → SoundTo (COLUMNS * n) (new .nums) (new .dens) → SoundTo (COLUMNS * n) (new′ .nums) (new′ .dens) → SameEnd 0 (COLUMNS * n) r s new new′
 table-same-end n {r} {s} {new = new} {new′} ends ends′ kept kept′ sound sound′ =
     let table = tableAt n (new .nums) (new .dens) in
     let table′ = tableAt n (new′ .nums) (new′ .dens) in
@@ -56,7 +62,8 @@ table-same-end n {r} {s} {new = new} {new′} ends ends′ kept kept′ sound so
     }
 
 -- Rows within a set are the same outside it: they hold 0 there, which has one form.
-pub within-alike : {set base m : ℕ} {nums dens nums′ dens′ : List ℤ} → base + COLUMNS ≤ m → SoundTo m nums dens → SoundTo m nums′ dens′ → Within set base nums → Within set base nums′ → Spared set base nums dens nums′ dens′
+pub within-alike : {set base m : ℕ} {nums dens nums′ dens′ : List ℤ} → base + COLUMNS ≤ m → SoundTo m nums dens → SoundTo m nums′ dens′
+    → Within set base nums → Within set base nums′ → Spared set base nums dens nums′ dens′
 within-alike {base = base} room sound sound′ within within′ =
     record {
       same = λ c below out.
@@ -70,6 +77,7 @@ pub record SameLinks (sets sets′ : List ℕ) : Type 0 where
   pub size : length sets′ ≡ length sets
   pub links : (k : ℕ) → TERMS ≤ k → k ≢ 192 → getD sets′ k 0 ≡ getD sets k 0
 
-pub stirred-alike : {n : ℕ} {nums₀ dens₀ nums dens nums′ dens′ : List ℤ} {sets₀ sets sets′ : List ℕ} → Stirred n nums₀ dens₀ nums dens sets₀ sets → Stirred n nums₀ dens₀ nums′ dens′ sets₀ sets′ → SameLinks sets sets′
+pub stirred-alike : {n : ℕ} {nums₀ dens₀ nums dens nums′ dens′ : List ℤ} {sets₀ sets sets′ : List ℕ}
+    → Stirred n nums₀ dens₀ nums dens sets₀ sets → Stirred n nums₀ dens₀ nums′ dens′ sets₀ sets′ → SameLinks sets sets′
 stirred-alike first second =
     record { size = second .same-length ∙ sym (first .same-length); links = λ k low other. second .links k low other ∙ sym (first .links k low other) }

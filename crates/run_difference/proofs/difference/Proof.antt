@@ -1,12 +1,9 @@
 -- `run_difference::difference` meets its contract. The loop's invariant: the columns passed are those of the difference, and all that is
 -- written is in the set. Assumes nothing.
-use mathlib.Core.Path.{_≡_, sym}
-use Prim.Native.Nat.{_+_, _-_}
-use native.Mathlib.Nat.{zero-add}
+use Prim.Native.Nat.{_-_}
 use native.Mathlib.Omega.{arith}
-use Rattle.fraction_reduce.specs.Values.{Good, Answers}
 use Rattle.rules_run.specs.Row.{COLUMNS}
-use Rattle.run_table.specs.Lists.{both, lists}
+use Rattle.run_table.specs.Lists.{both}
 use Rattle.run_table.proofs.Lists.{read-good}
 use Rattle.run_table.proofs.OverSet.{Taking, taking-less}
 use Rattle.run_difference.specs.Contract.{apart}

@@ -1,7 +1,6 @@
 -- `run_fold::fold_rows` meets its contract. The loop's invariant: the rows passed are folded, the others stand as they were, and the sets
 -- say what has happened so far. Assumes nothing.
 use Prim.Native.Nat.{_-_}
-use native.Mathlib.Omega.{arith}
 use Rattle.run_table.specs.Lists.{both}
 use Rattle.run_fold.proofs.Tables.{Folding, folding-starts, folding-asks, folding-seeks, folding-goes-on, folding-stops, folding-ends}
 use borrow.Author.Needs.{needs}

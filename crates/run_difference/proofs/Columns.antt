@@ -8,15 +8,15 @@ use native.Mathlib.Omega.{arith}
 use lib.ListN.{set as stored-at}
 use lib.IntN.{ℤ}
 use Rattle.set_members.proofs.Digits.{holds-none}
-use Rattle.set_extremes.specs.Ends.{Next, Rest}
+use Rattle.set_extremes.specs.Extremes.{Next, Rest}
 use Rattle.fraction.specs.declared.Fraction.{Fraction}
 use Rattle.fraction.specs.Exact.{value, zeroℚ}
 use Rattle.fraction.specs.Limits.{tested, minus}
 use Rattle.fraction.specs.Made.{made}
 use Rattle.fraction.proofs.Field.{minus-is-plus, plus-inverse}
 use Rattle.fraction_reduce.specs.Values.{Answers}
-use Rattle.fraction_reduce.specs.declared.Made.{Made}
-use Rattle.fraction_reduce.specs.declared.Made.the-variants.{Fits, Refused}
+use Rattle.fraction_reduce.specs.declared.Tested.{Tested}
+use Rattle.fraction_reduce.specs.declared.Tested.the-variants.{Fits, Refused}
 use Rattle.fraction_reduce.proofs.Tests.{zero-passes}
 use Rattle.rules_run.specs.Row.{COLUMNS}
 use Rattle.run_table.specs.declared.Step.{Step}
@@ -50,7 +50,7 @@ module _ {left right set : ℕ} {nums dens nums₀ dens₀ : List ℤ} (asked : 
       → Subtracts left right set step (both nums dens) (both nums₀ dens₀) (both nums′ dens′)
   over gone = record { row-made = gone .row-made; within = gone-within gone (within-any (asked .zeros .within)) }
 
-  module _ {c rest at : ℕ} {nums₁ dens₁ : List ℤ} {a b : Fraction} {r : Made}
+  module _ {c rest at : ℕ} {nums₁ dens₁ : List ℤ} {a b : Fraction} {r : Tested}
       (taking : Taking (apart left right (both nums dens)) 0 COLUMNS set c rest nums₀ dens₀ nums₁ dens₁) (more : c < COLUMNS)
       (first : Next rest 0 at) (from-left : a ≡ heldAt nums dens (left + at)) (from-right : b ≡ heldAt nums dens (right + at))
       (answers : Answers r (minus (value a) (value b))) where

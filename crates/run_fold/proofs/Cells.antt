@@ -12,9 +12,9 @@ use Rattle.fraction.specs.Exact.{ℚ, value, zeroℚ, _*ℚ_}
 use Rattle.fraction.specs.Limits.{tested, plus, times}
 use Rattle.fraction.specs.Made.{made, stopped, _>>=_}
 use Rattle.fraction.proofs.Field as field
-use Rattle.fraction_reduce.specs.Values.{Good, Answers, says, Sound}
-use Rattle.fraction_reduce.specs.declared.Made.{Made}
-use Rattle.fraction_reduce.specs.declared.Made.the-variants.{Fits, Refused}
+use Rattle.fraction_reduce.specs.Values.{Good, Answers, says, FitsGood}
+use Rattle.fraction_reduce.specs.declared.Tested.{Tested}
+use Rattle.fraction_reduce.specs.declared.Tested.the-variants.{Fits, Refused}
 use Rattle.fraction_reduce.proofs.Answered.{fits-made, refused-stopped}
 use Rattle.fraction_reduce.proofs.Operations.{good-num, good-den}
 use Rattle.fraction_reduce.proofs.Shortcuts.{word-is, times-one}
@@ -59,7 +59,7 @@ gains-nothing f good = gains-zero zeroℚ f good (field.times-comm zeroℚ f ∙
 
 -- What answers for the code's steps answers for the rule: where k is 1 the sum with the form's number,
 module _ {k form old : Fraction} (asked : Gainable k form old) where
-  pub gained-one : {r : Made} → ofZ w32 (k .num) ≡ ofZ w32 (pos 1) → ofZ w32 (k .den) ≡ ofZ w32 (pos 1)
+  pub gained-one : {r : Tested} → ofZ w32 (k .num) ≡ ofZ w32 (pos 1) → ofZ w32 (k .den) ≡ ofZ w32 (pos 1)
       → Answers r (plus (value old) (value form)) → Answers r (gainedBy (value k) (value form) (value old))
   gained-one {r} num den answers =
       let good = asked .coefficient-good in
@@ -67,12 +67,12 @@ module _ {k form old : Fraction} (asked : Gainable k form old) where
       subst (Answers r) (sym (gained-then (value k) (value form) (value old) (fits-made product refl))) answers
 
   -- else the sum with the product that was made,
-  module _ {product : Made} (multiplied : Answers product (times (value k) (value form))) where
-    pub gained-product : {r : Made} {f : Fraction} → product ≡ Fits f → Answers r (plus (value old) (value f))
+  module _ {product : Tested} (multiplied : Answers product (times (value k) (value form))) where
+    pub gained-product : {r : Tested} {f : Fraction} → product ≡ Fits f → Answers r (plus (value old) (value f))
         → Answers r (gainedBy (value k) (value form) (value old))
     gained-product {r} fits answers = subst (Answers r) (sym (gained-then (value k) (value form) (value old) (fits-made multiplied fits))) answers
 
     -- or the refusal of the product.
     pub gained-refused : {number : ℕ} → product ≡ Refused number → Answers (Refused number) (gainedBy (value k) (value form) (value old))
-    unfolding says Sound
+    unfolding says FitsGood
     gained-refused refused = record { same = sym (gained-stops (value k) (value form) (value old) (refused-stopped multiplied refused)); sound = tt }

@@ -8,12 +8,12 @@ use lib.IntN.{ℤ, pos}
 use lib.ListN.{set as stored-at}
 use mir.Syntax.{w32}
 use mir.Val.{ofZ}
-use Rattle.set_extremes.specs.Ends.{Next, Rest}
+use Rattle.set_extremes.specs.Extremes.{Next, Rest}
 use Rattle.fraction.specs.declared.Fraction.{Fraction}
 use Rattle.fraction.specs.Exact.{value}
 use Rattle.fraction_reduce.specs.Values.{Good, Answers}
-use Rattle.fraction_reduce.specs.declared.Made.{Made}
-use Rattle.fraction_reduce.specs.declared.Made.the-variants.{Fits, Refused}
+use Rattle.fraction_reduce.specs.declared.Tested.{Tested}
+use Rattle.fraction_reduce.specs.declared.Tested.the-variants.{Fits, Refused}
 use Rattle.fraction_reduce.proofs.Tests.{zero-value}
 use Rattle.rules_run.specs.Row.{COLUMNS}
 use Rattle.run_table.specs.declared.Step.the-variants.{Done, Refused as Stopped}
@@ -61,7 +61,7 @@ module _ {base : ℕ} {k : Fraction} {nums₀ dens₀ form-nums form-dens : List
       pub gaining-asks : Gainable k form old
       gaining-asks = record { coefficient-good = asked .coefficient-good; form-good = form-good; number-good = going-good (taking .going) (taking-next taking more first) refl read }
 
-      module _ {r : Made} (answers : Answers r (gainedBy (value k) (value form) (value old))) where
+      module _ {r : Tested} (answers : Answers r (gainedBy (value k) (value form) (value old))) where
         -- The loop reads a number that stands as it did when the loop began: what answers for it answers for the column.
         column-answers : Answers r (gainedIn base k set (both nums₀ dens₀) (both form-nums form-dens) at)
         column-answers =

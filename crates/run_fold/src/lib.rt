@@ -1,7 +1,7 @@
 // Folding a solved form into the rows of the table: into every row that holds the solved unknown, and in a row only into the columns that
 // the form can have.
 use fraction::Fraction;
-use fraction_reduce::Made;
+use fraction_reduce::Tested;
 use rules_problem::COLUMNS;
 use run_table::PENDING;
 use run_table::Step;
@@ -16,7 +16,7 @@ ghost use Rattle.run_fold.specs.Contract.{Notable, Noted, FoldableRow, F
 
 // A number of a row gains k times the form's: one product, one sum. Where k is 1 the product is the form's own number, which is within the
 // limits already, so that only the sum is made.
-fn gained(k: Fraction, form: Fraction, old: Fraction) -> Made
+fn gained(k: Fraction, form: Fraction, old: Fraction) -> Tested
     requires { ⌜ Gainable k form old ⌝ }
     ensures { λ r. ⌜ Answers r (gainedBy (value k) (value form) (value old)) ⌝ }
 {
@@ -26,8 +26,8 @@ fn gained(k: Fraction, form: Fraction, old: Fraction) -> Made
         }
     }
     match fraction_product::product(k, form) {
-        Made::Fits(f) => fraction_sum::sum(old, f),
-        Made::Refused(number) => Made::Refused(number),
+        Tested::Fits(f) => fraction_sum::sum(old, f),
+        Tested::Refused(number) => Tested::Refused(number),
     }
 }
 
@@ -55,8 +55,8 @@ fn gain_columns(
         if form.num != 0 {
             let old = run_table::get(nums, dens, base + at);
             match gained(k, form, old) {
-                Made::Fits(f) => run_table::put(nums, dens, base + at, f),
-                Made::Refused(number) => return Step::Refused(number),
+                Tested::Fits(f) => run_table::put(nums, dens, base + at, f),
+                Tested::Refused(number) => return Step::Refused(number),
             }
         }
     }

@@ -14,7 +14,7 @@ use Rattle.fraction.specs.Limits.{tested, times, over}
 use Rattle.fraction.specs.Made.{made, _>>=_}
 use Rattle.fraction.proofs.Field.{times-zero}
 use Rattle.fraction_reduce.specs.Values.{Stands, Answers}
-use Rattle.fraction_reduce.specs.declared.Made.the-variants.{Fits}
+use Rattle.fraction_reduce.specs.declared.Tested.the-variants.{Fits}
 use Rattle.fraction_reduce.proofs.Divided.{divided-negated}
 use Rattle.fraction_reduce.proofs.Operations.{good-num, good-den}
 use Rattle.fraction_reduce.proofs.Shortcuts.{word-is, times-one, times-minus}

@@ -7,13 +7,13 @@ use native.Mathlib.Nat.{zero-add}
 use native.Mathlib.Omega.{arith}
 use lib.IntN.{ℤ}
 use lib.ListN.{set as stored-at}
-use Rattle.set_extremes.specs.Ends.{Next, Rest}
+use Rattle.set_extremes.specs.Extremes.{Next, Rest}
 use Rattle.fraction.specs.declared.Fraction.{Fraction}
 use Rattle.fraction.specs.Exact.{value}
 use Rattle.fraction.specs.Limits.{times}
 use Rattle.fraction_reduce.specs.Values.{Answers}
-use Rattle.fraction_reduce.specs.declared.Made.{Made}
-use Rattle.fraction_reduce.specs.declared.Made.the-variants.{Fits, Refused}
+use Rattle.fraction_reduce.specs.declared.Tested.{Tested}
+use Rattle.fraction_reduce.specs.declared.Tested.the-variants.{Fits, Refused}
 use Rattle.rules_run.specs.Row.{COLUMNS}
 use Rattle.run_table.specs.declared.Step.{Step}
 use Rattle.run_table.specs.declared.Step.the-variants.{Done, Refused as Stopped}
@@ -41,7 +41,7 @@ module _ {factor : Fraction} {set : ℕ} {nums₀ dens₀ : List ℤ} (asked : S
     pub scaling-asks : Scalable factor x
     scaling-asks = record { factor-good = asked .factor-good; number-good = going-good (taking .going) (taking-next taking more first) (sym (zero-add at)) read }
 
-    module _ {r : Made} (answers : Answers r (times (value factor) (value x))) where
+    module _ {r : Tested} (answers : Answers r (times (value factor) (value x))) where
       -- The loop reads a number that stands as it did when the loop began: what answers for it answers for the column.
       column-answers : Answers r (scaledIn factor set (both nums₀ dens₀) at)
       unfolding scaledColumn

@@ -1,48 +1,76 @@
--- A column that the loop comes to, or passes over: the numbers that it reads.
--- Main results: `column-nothing`, `column-differs`, `difference-skips`. Assume nothing.
-use mathlib.Core.Path.{_≡_, sym, ap, ap₂, _∙_}
-use mathlib.Core.Bool.{false}
+-- The loop over the columns of a difference: how it begins, what a turn makes of a column, and what it leaves.
+-- Main results: `difference-starts`, `difference-stores`, `difference-stops`, `difference-ends`. Assume nothing.
+use mathlib.Core.Path.{_≡_, sym, ap, ap₂, _∙_, subst}
 use mathlib.Core.List.{List}
 use Prim.Native.Nat.{ℕ, _+_, _≤_, _<_}
+use native.Mathlib.Nat.{zero-add}
 use native.Mathlib.Omega.{arith}
+use lib.ListN.{set as stored-at}
 use lib.IntN.{ℤ}
+use Rattle.set_members.proofs.Digits.{holds-none}
+use Rattle.set_extremes.specs.Extremes.{Next, Rest}
 use Rattle.fraction.specs.declared.Fraction.{Fraction}
 use Rattle.fraction.specs.Exact.{value, zeroℚ}
 use Rattle.fraction.specs.Limits.{tested, minus}
 use Rattle.fraction.specs.Made.{made}
 use Rattle.fraction.proofs.Field.{minus-is-plus, plus-inverse}
-use Rattle.set_members.specs.Sets.{holds}
-use Rattle.set_members.proofs.Digits.{holds-none}
-use Rattle.set_extremes.specs.Extremes.{Next}
+use Rattle.fraction_reduce.specs.Values.{Answers}
+use Rattle.fraction_reduce.specs.declared.Tested.{Tested}
+use Rattle.fraction_reduce.specs.declared.Tested.the-variants.{Fits, Refused}
 use Rattle.fraction_reduce.proofs.Tests.{zero-passes}
-use Rattle.rules_run.specs.Row.{TERMS, COLUMNS, column}
-use Rattle.run_table.specs.Held.{heldAt, rowAt, SoundTo}
-use Rattle.run_table.specs.Loop.{Making}
-use Rattle.run_table.specs.Sparse.{Within}
+use Rattle.rules_run.specs.Row.{COLUMNS}
+use Rattle.run_table.specs.declared.Step.{Step}
+use Rattle.run_table.specs.declared.Step.the-variants.{Done, Refused as Stopped}
+use Rattle.run_table.specs.Held.{heldAt}
+use Rattle.run_table.specs.Lists.{both}
 use Rattle.run_table.proofs.Columns.{column-held}
-use Rattle.run_table.proofs.Sparse.{making-skips, within-value}
+use Rattle.run_table.proofs.Lists.{column-nothing, within-any}
+use Rattle.run_table.proofs.OverSet.{Leaves, Taking, taking-starts, taking-stores, taking-stops, taking-ends, Gone, gone-within}
+use Rattle.run_difference.specs.Contract.{Subtractable, apart, Subtracts}
 
 -- 0 minus 0 is 0.
 differs-nothing : minus zeroℚ zeroℚ ≡ made zeroℚ
 unfolding minus
 differs-nothing = ap tested (sym (minus-is-plus zeroℚ zeroℚ) ∙ plus-inverse zeroℚ) ∙ zero-passes
 
--- A column outside the set, of a row whose columns lie within it, is 0.
-pub column-nothing : {s base m : ℕ} {nums dens : List ℤ} (c : ℕ) → Within s base nums → SoundTo m nums dens → base + 65 ≤ m → c < 64 → holds s c ≡ false → column (rowAt nums dens base) c ≡ zeroℚ
-column-nothing {base = base} {nums = nums} {dens = dens} c within sound room below out =
-    column-held nums dens base c (omega arith) ∙ within-value c within sound (omega arith) below out
+module _ {left right set : ℕ} {nums dens nums₀ dens₀ : List ℤ} (asked : Subtractable left right set (both nums dens) (both nums₀ dens₀)) where
+  -- Outside the set both rows hold 0, and so does the row to be written.
+  leaves : Leaves (apart left right (both nums dens)) set 0 nums₀ dens₀
+  leaves =
+      record {
+        stands = λ c below out.
+            ap₂ minus (column-nothing (asked .left-row) c below out) (column-nothing (asked .right-row) c below out)
+            ∙ differs-nothing ∙ ap made (sym (column-nothing (asked .zeros) c below (holds-none c)) ∙ column-held nums₀ dens₀ 0 c (omega arith));
+      }
 
-module _ (nums dens : List ℤ) (left right : ℕ) where
-  -- A column of the difference is that of the two numbers that stand there.
-  pub column-differs : {c : ℕ} {a b : Fraction} → c < 65 → a ≡ heldAt nums dens (left + c) → b ≡ heldAt nums dens (right + c) → minus (value a) (value b) ≡ minus (column (rowAt nums dens left) c) (column (rowAt nums dens right) c)
-  column-differs {c} below first second =
-      ap₂ minus (ap value first ∙ sym (column-held nums dens left c below)) (ap value second ∙ sym (column-held nums dens right c below))
+  pub difference-starts : Taking (apart left right (both nums dens)) 0 COLUMNS set 0 set nums₀ dens₀ nums₀ dens₀
+  difference-starts = taking-starts (asked .zeros .held .nums-fit) (asked .zeros .held .dens-fit) (omega arith) (asked .zeros .held .sound) leaves
 
-  -- The columns between two that the set holds need no turn: both rows hold 0 there, and so does the row to be written.
-  pub difference-skips : {s c at : ℕ} {nums₀ dens₀ nums′ dens′ : List ℤ} → SoundTo (left + 65) nums dens → SoundTo (right + 65) nums dens → SoundTo 65 nums₀ dens₀ → Within s left nums → Within s right nums → Within 0 0 nums₀ → Next s c at → Making (λ c. minus (column (rowAt nums dens left) c) (column (rowAt nums dens right) c)) 0 65 c nums₀ dens₀ nums′ dens′ → Making (λ c. minus (column (rowAt nums dens left) c) (column (rowAt nums dens right) c)) 0 65 at nums₀ dens₀ nums′ dens′
-  difference-skips {at = at} first second sound within-left within-right empty next making =
-      making-skips at (next .forward) (λ k above below.
-      let term : k < 64 = omega (arith, next .most) in
-      let out = next .none-between k above below in
-      ap₂ minus (column-nothing k within-left first (omega arith) term out) (column-nothing k within-right second (omega arith) term out)
-      ∙ differs-nothing ∙ ap made (sym (within-value k empty sound (omega arith) term (holds-none k)))) making
+  over : {step : Step} {nums′ dens′ : List ℤ} → Gone (apart left right (both nums dens)) 0 COLUMNS set step nums₀ dens₀ nums′ dens′
+      → Subtracts left right set step (both nums dens) (both nums₀ dens₀) (both nums′ dens′)
+  over gone = record { row-made = gone .row-made; within = gone-within gone (within-any (asked .zeros .within)) }
+
+  module _ {c rest at : ℕ} {nums₁ dens₁ : List ℤ} {a b : Fraction} {r : Tested}
+      (taking : Taking (apart left right (both nums dens)) 0 COLUMNS set c rest nums₀ dens₀ nums₁ dens₁) (more : c < COLUMNS)
+      (first : Next rest 0 at) (from-left : a ≡ heldAt nums dens (left + at)) (from-right : b ≡ heldAt nums dens (right + at))
+      (answers : Answers r (minus (value a) (value b))) where
+    -- What answers for the two numbers that stand there answers for the column.
+    column-answers : Answers r (apart left right (both nums dens) at)
+    column-answers =
+        let most = first .most in
+        subst (Answers r) (ap₂ minus (ap value from-left ∙ sym (column-held nums dens left at (omega arith))) (ap value from-right ∙ sym (column-held nums dens right at (omega arith)))) answers
+
+    -- It is stored, and the loop goes on; or it is refused, and the loop is over.
+    pub difference-stores : {after : ℕ} {f : Fraction} {nums′ dens′ : List ℤ} → Rest rest after → r ≡ Fits f
+        → nums′ ≡ stored-at nums₁ at (f .num) → dens′ ≡ stored-at dens₁ at (f .den)
+        → Taking (apart left right (both nums dens)) 0 COLUMNS set (at + 1) after nums₀ dens₀ nums′ dens′
+    difference-stores others fits num den = taking-stores taking more first others column-answers fits (sym (zero-add at)) num den
+
+    pub difference-stops : {number : ℕ} → r ≡ Refused number
+        → Subtracts left right set (Stopped number) (both nums dens) (both nums₀ dens₀) (both nums₁ dens₁)
+    difference-stops refused = over (taking-stops taking more first column-answers refused)
+
+  pub difference-ends : {c rest : ℕ} {nums₁ dens₁ : List ℤ}
+      → Taking (apart left right (both nums dens)) 0 COLUMNS set c rest nums₀ dens₀ nums₁ dens₁ → COLUMNS ≤ c
+      → Subtracts left right set Done (both nums dens) (both nums₀ dens₀) (both nums₁ dens₁)
+  difference-ends taking end = over (taking-ends taking end)

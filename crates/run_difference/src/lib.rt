@@ -3,13 +3,8 @@
 use fraction_reduce::Tested;
 use rules_problem::COLUMNS;
 use run_table::Step;
-ghost use Prim.Native.Nat.{_+_, _≤_};
-ghost use lib.ListN.{length};
-ghost use Rattle.fraction.specs.Limits.{minus};
-ghost use Rattle.rules_run.specs.Row.{column};
-ghost use Rattle.run_table.specs.Held.{rowAt, SoundTo};
-ghost use Rattle.run_table.specs.Loop.{RowMade};
-ghost use Rattle.run_table.specs.Sparse.{Within};
+ghost use Rattle.run_table.specs.Lists.{lists, atEntry, atExit};
+ghost use Rattle.run_difference.specs.Contract.{Subtractable, Subtracts};
 
 // 01, Merge: "take the difference of the two rows". Its columns are made and tested in rising order; where both rows hold 0, so does it.
 pub fn difference(
@@ -21,16 +16,8 @@ pub fn difference(
     d_nums: &mut [i32],
     d_dens: &mut [i32],
 ) -> Step
-    requires { ⌜ (left + 65 ≤ length (now nums)) × (right + 65 ≤ length (now nums)) × (left + 65 ≤ length (now dens)) × (right + 65 ≤ length (now dens)) ⌝ }
-    requires { ⌜ (65 ≤ length (now «d_nums»)) × (65 ≤ length (now «d_dens»)) ⌝ }
-    requires { ⌜ SoundTo (left + 65) (now nums) (now dens) ⌝ }
-    requires { ⌜ SoundTo (right + 65) (now nums) (now dens) ⌝ }
-    requires { ⌜ SoundTo 65 (now «d_nums») (now «d_dens») ⌝ }
-    requires { ⌜ Within set left (now nums) ⌝ }
-    requires { ⌜ Within set right (now nums) ⌝ }
-    requires { ⌜ Within 0 0 (now «d_nums») ⌝ }
-    ensures { λ r. ⌜ RowMade (λ c. minus (column (rowAt (now (nums .entry)) (now (dens .entry)) left) c) (column (rowAt (now (nums .entry)) (now (dens .entry)) right) c)) 0 65 r (now («d_nums» .entry)) (now («d_dens» .entry)) (now («d_nums» .exit)) (now («d_dens» .exit)) ⌝ }
-    ensures { λ r. ⌜ Within set 0 (now («d_nums» .exit)) ⌝ }
+    requires { ⌜ Subtractable left right set (lists nums dens) (lists «d_nums» «d_dens») ⌝ }
+    ensures { λ r. ⌜ Subtracts left right set r (atEntry nums dens) (atEntry «d_nums» «d_dens») (atExit «d_nums» «d_dens») ⌝ }
 {
     let mut rest = set;
     let mut c: usize = 0;

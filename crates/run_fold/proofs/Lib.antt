@@ -1,6 +1,6 @@
 pub mod Cells
 pub mod Columns
-pub mod Reached
+pub mod Gaining
 pub mod Sets
 pub mod Tables
 pub mod Unique

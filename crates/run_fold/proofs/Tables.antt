@@ -1,6 +1,7 @@
 -- A fold of all rows, in a loop over them: the rows passed are folded, the others stand as they were.
--- Main definition: `Folding`. Main results: `passed-more`, `folding-starts`, `folding-goes-on`, `folding-passes`, `folding-ends`, `folding-stops`. Assume nothing.
-use mathlib.Core.Path.{_≡_, sym, ap, _∙_}
+-- Main definition: `Folding`, the loop's invariant. Main results: `passed-starts`, `passed-more`, `fold-passes`, `fold-notes`,
+-- `folding-starts`, `folding-asks`, `folding-seeks`, `folding-goes-on`, `folding-stops`, `folding-ends`. Assume nothing.
+use mathlib.Core.Path.{_≡_, refl, sym, ap, _∙_}
 use mathlib.Core.Logic.{inl, inr}
 use mathlib.Core.List.{List}
 use Prim.Native.Nat.{ℕ, _+_, _*_, _≤_, _<_}
@@ -9,110 +10,204 @@ use native.Mathlib.Decide.{ℕ-discrete, decLt}
 use native.Mathlib.Omega.{arith}
 use lib.IntN.{ℤ, pos}
 use lib.ListN.{getD}
+use mir.Syntax.{w32}
+use mir.Val.{ofZ}
+use Rattle.fraction.specs.declared.Fraction.{Fraction}
+use Rattle.fraction.specs.Exact.{value}
 use Rattle.fraction.specs.Made.{made, tab}
 use Rattle.fraction.proofs.Making.{tab-stopped}
-use Rattle.rules_run.specs.Row.{TERMS, COLUMNS, Row, row, rowOf}
+use Rattle.fraction_reduce.proofs.Tests.{zero-value}
+use Rattle.rules_run.specs.Row.{COLUMNS, row, rowOf}
 use Rattle.rules_run.specs.Merge.{foldedColumn, folded}
 use Rattle.run_table.specs.declared.Step.{Step}
 use Rattle.run_table.specs.declared.Step.the-variants.{Done, Refused}
-use Rattle.run_table.specs.Held.{rowAt, tableAt, SoundTo, finished}
-use Rattle.run_table.specs.Loop.{Kept, RowMade}
-use Rattle.run_table.proofs.Columns.{row-held, table-length, kept-itself, kept-row, kept-within, kept-then, sound-fewer, sound-beyond}
+use Rattle.run_table.specs.Held.{heldAt, rowAt, tableAt, SoundTo, finished}
+use Rattle.run_table.specs.Lists.{Lists, both, rowIn}
+use Rattle.run_table.specs.Loop.{Kept}
+use Rattle.run_table.specs.Sparse.{Sparse, Stirred}
+use Rattle.run_table.specs.Work.{Work, tableOf, Rows}
+use Rattle.run_table.proofs.Columns.{row-held, table-length, kept-itself, kept-row, kept-within, kept-then, sound-beyond}
+use Rattle.run_table.proofs.Lists.{rows-held, read-good}
 use Rattle.run_table.proofs.Rows.{tab-listed}
-use Rattle.run_table.proofs.Sparse.{zero-numerator}
-use Rattle.run_table.proofs.Turns.{finished-done, finished-refused}
-use Rattle.run_fold.specs.Rows.{Passed}
+use Rattle.run_table.proofs.Sparse.{zero-numerator, stirred-itself}
+use Rattle.run_table.proofs.Stirred.{stirred-then}
+use Rattle.run_table.proofs.Turns.{finished-done, finished-refused, refused-not-done}
+use Rattle.run_fold.specs.Contract.{Noted, FoldableAt, FoldsAt, FoldableRow, FoldsRow, Passable, Passed, Foldable, Folds}
 use Rattle.run_fold.proofs.Columns.{row-passed}
+use Rattle.run_fold.proofs.Sets.{row-stirred, row-sparse}
 
--- the rows below t are folded as the rule folds the table at entry, nothing from row t on has changed, and all are sound
-pub record Folding (p : ℕ) (form : Row) (n t : ℕ) (nums₀ dens₀ nums dens : List ℤ) : Type 0 where
-  pub kept : Kept 0 (65 * t) nums₀ dens₀ nums dens
-  pub folded-below : (s : ℕ) → s < t → row (foldedColumn p form (rowOf (tableAt n nums₀ dens₀) s)) ≡ made (rowAt nums dens (65 * s))
-  pub sound : SoundTo (65 * n) nums dens
+-- No row is passed; one row more holds 0 at p.
+pub passed-starts : {n p from : ℕ} {nums : List ℤ} → Passable n p from nums → Passed n p from from nums
+passed-starts asked = record { forward = omega arith; most = asked .from-here; nothing = λ t above below. absurd (omega arith) }
 
--- One row more holds 0 at p.
-pub passed-more : {n p from t : ℕ} {nums : List ℤ} → t < n → getD nums (65 * t + p) (pos 0) ≡ pos 0 → Passed n p from t nums → Passed n p from (t + 1) nums
+pub passed-more : {n p from t : ℕ} {nums : List ℤ} → t < n → getD nums (COLUMNS * t + p) (pos 0) ≡ pos 0 → Passed n p from t nums
+    → Passed n p from (t + 1) nums
 passed-more {p = p} {from} {t} {nums} below none passed =
     record { forward = omega (arith, passed .forward); most = omega arith; nothing = λ s above less. by s above less (ℕ-discrete s t) }
   where
-    by : (s : ℕ) → from ≤ s → s < t + 1 → Dec (s ≡ t) → getD nums (65 * s + p) (pos 0) ≡ pos 0
+    by : (s : ℕ) → from ≤ s → s < t + 1 → Dec (s ≡ t) → getD nums (COLUMNS * s + p) (pos 0) ≡ pos 0
     by s above less (yes same) = rw same none
     by s above less (no other) = passed .nothing s above (omega arith)
 
--- what a fold of all rows leaves
-abbrev pub Folded : (p : ℕ) (form : Row) (n : ℕ) (step : Step) (nums₀ dens₀ nums dens : List ℤ) → Type 0
-Folded p form n step nums₀ dens₀ nums dens =
-    (folded p form (tableAt n nums₀ dens₀) ≡ finished step (tableAt n nums dens)) × (Kept 0 (65 * n) nums₀ dens₀ nums dens × SoundTo (65 * n) nums dens)
+-- A row whose coefficient at p is 0 is passed over; another is folded, and that is noted.
+pub fold-passes : {t p set : ℕ} {form : Lists} {w : Work} {k : Fraction} → FoldableRow t p set form w
+    → k ≡ heldAt (w .nums) (w .dens) (COLUMNS * t + p) → ofZ w32 (k .num) ≡ ofZ w32 (pos 0) → FoldsRow t p set form Done w w
+fold-passes asked read none =
+    let term = asked .columns .unknown .term in
+    let good = read-good (asked .columns .row) read (omega arith) in
+    record { columns = row-passed (asked .columns) (ap value (sym read) ∙ zero-value good none); noted = inl refl }
 
-module _ {p : ℕ} {form : Row} {n : ℕ} {nums₀ dens₀ : List ℤ} where
-  pub folding-starts : SoundTo (65 * n) nums₀ dens₀ → Folding p form n 0 nums₀ dens₀ nums₀ dens₀
-  folding-starts sound =
+pub fold-notes : {t p set : ℕ} {form : Lists} {step : Step} {old new : Work}
+    → FoldsAt (COLUMNS * t) p form step (both (old .nums) (old .dens)) (both (new .nums) (new .dens))
+    → Noted t p set (old .sets) (new .sets) → FoldsRow t p set form step old new
+fold-notes columns noted = record { columns = columns; noted = inr noted }
+
+-- In the loop over the rows: those below t are folded as the rule folds the table at entry, nothing from row t on has changed, all are
+-- sound and within their sets, and the sets say what has happened so far.
+pub record Folding (n p : ℕ) (form : Lists) (t : ℕ) (old new : Work) : Type 0 where
+  pub most : t ≤ n
+  pub kept : Kept 0 (COLUMNS * t) (old .nums) (old .dens) (new .nums) (new .dens)
+  pub folded-below : (s : ℕ) → s < t
+      → row (foldedColumn p (rowIn form 0) (rowOf (tableOf n old) s)) ≡ made (rowAt (new .nums) (new .dens) (COLUMNS * s))
+  pub sound : SoundTo (COLUMNS * n) (new .nums) (new .dens)
+  pub sparse : Sparse n (new .nums) (new .sets)
+  pub stirred : Stirred n (old .nums) (old .dens) (new .nums) (new .dens) (old .sets) (new .sets)
+
+module _ {n p set : ℕ} {form : Lists} {old : Work} (asked : Foldable n p set form old) where
+  pub folding-starts : Folding n p form 0 old old
+  folding-starts =
       record {
-        kept = kept-itself 0 (65 * 0) nums₀ dens₀;
+        most = omega arith;
+        kept = kept-itself 0 (COLUMNS * 0) (old .nums) (old .dens);
         folded-below = λ s below. absurd (omega arith);
-        sound = sound;
+        sound = asked .rows .sound;
+        sparse = asked .rows .sparse;
+        stirred = stirred-itself n (old .nums) (old .dens) (old .sets);
       }
 
-  module _ {t : ℕ} {nums dens nums′ dens′ : List ℤ} {step : Step} (below : t < n) (folding : Folding p form n t nums₀ dens₀ nums dens) (turn : RowMade (foldedColumn p form (rowAt nums dens (65 * t))) (65 * t) (65 * t + 65) step nums dens nums′ dens′) where
-    -- The rule's row t is the one that the turn reads.
-    row-read : row (foldedColumn p form (rowOf (tableAt n nums₀ dens₀) t)) ≡ finished step (rowAt nums′ dens′ (65 * t))
-    row-read =
-        ap (λ r. row (foldedColumn p form r)) (row-held n nums₀ dens₀ t below ∙ sym (kept-row (folding .kept) (65 * t) (inr (omega arith)))) ∙ turn .ends
-
-    all-kept : (m : ℕ) → 65 * t + 65 ≤ m → Kept 0 m nums₀ dens₀ nums′ dens′
-    all-kept m most = kept-then (kept-within (folding .kept) 0 m (omega arith) (omega arith)) (kept-within (turn .kept) 0 m (omega arith) most)
-
-    all-sound : SoundTo (65 * n) nums′ dens′
-    all-sound = sound-beyond (65 * n) (turn .kept) (turn .sound) (folding .sound)
-
-    -- One row more is folded.
-    pub folding-goes-on : step ≡ Done → Folding p form n (t + 1) nums₀ dens₀ nums′ dens′
-    unfolding finished
-    folding-goes-on done =
+  module _ {t : ℕ} {w : Work} (folding : Folding n p form t old w) where
+    -- The rows can be worked on as at entry,
+    rows-now : Rows n w
+    rows-now =
+        let rows = asked .rows in
+        let kept = folding .kept in
         record {
-          kept = all-kept (65 * (t + 1)) (omega arith);
-          folded-below = λ s less. by s less (ℕ-discrete s t);
-          sound = all-sound;
+          few = rows .few;
+          nums-fit = omega (arith, rows .nums-fit, kept .nums-length);
+          dens-fit = omega (arith, rows .dens-fit, kept .dens-length);
+          sound = folding .sound;
+          size = folding .stirred .same-length ∙ rows .size;
+          sparse = folding .sparse;
+        }
+
+    foldable : (s : ℕ) → s < n → FoldableAt (COLUMNS * s) p set (both (w .nums) (w .dens)) form
+    foldable s below = record { unknown = asked .unknown; row = rows-held rows-now s below; form-row = asked .form-row }
+
+    -- and the next row can be folded.
+    pub folding-asks : t < n → FoldableRow t p set form w
+    folding-asks below =
+        record { term = omega (arith, asked .rows .few); size = rows-now .size; columns = foldable t below }
+
+    module _ {w′ : Work} {step : Step} (below : t < n) (folds : FoldsRow t p set form step w w′) where
+      -- The rule's row t is the one that the turn reads.
+      row-read : row (foldedColumn p (rowIn form 0) (rowOf (tableOf n old) t)) ≡ finished step (rowAt (w′ .nums) (w′ .dens) (COLUMNS * t))
+      row-read =
+          ap (λ r. row (foldedColumn p (rowIn form 0) r)) (row-held n (old .nums) (old .dens) t below ∙ sym (kept-row (folding .kept) (COLUMNS * t) (inr (omega arith))))
+          ∙ folds .columns .row-made .ends
+
+      all-kept : (m : ℕ) → COLUMNS * t + COLUMNS ≤ m → Kept 0 m (old .nums) (old .dens) (w′ .nums) (w′ .dens)
+      all-kept m most = kept-then (kept-within (folding .kept) 0 m (omega arith) (omega arith)) (kept-within (folds .columns .row-made .kept) 0 m (omega arith) most)
+
+      all-sound : SoundTo (COLUMNS * n) (w′ .nums) (w′ .dens)
+      all-sound = sound-beyond (COLUMNS * n) (folds .columns .row-made .kept) (folds .columns .row-made .sound) (folding .sound)
+
+      all-stirred : Stirred n (old .nums) (old .dens) (w′ .nums) (w′ .dens) (old .sets) (w′ .sets)
+      all-stirred = stirred-then (asked .rows .few) (folding .stirred) (row-stirred below (folding-asks below) folds)
+
+      -- One row more is folded.
+      one-more : step ≡ Done → Folding n p form (t + 1) old w′
+      unfolding finished
+      one-more done =
+          record {
+            most = omega arith;
+            kept = all-kept (COLUMNS * (t + 1)) (omega arith);
+            folded-below = λ s less. by s less (ℕ-discrete s t);
+            sound = all-sound;
+            sparse = row-sparse below (folding-asks below) folds (asked .rows .few) done (folding .sparse);
+            stirred = all-stirred;
+          }
+        where
+          by : (s : ℕ) → s < t + 1 → Dec (s ≡ t)
+              → row (foldedColumn p (rowIn form 0) (rowOf (tableOf n old) s)) ≡ made (rowAt (w′ .nums) (w′ .dens) (COLUMNS * s))
+          by s less (yes same) = rw same (finished-done row-read done)
+          by s less (no other) = folding .folded-below s (omega arith) ∙ ap made (sym (kept-row (folds .columns .row-made .kept) (COLUMNS * s) (inl (omega arith))))
+
+      -- A row is refused: the fold is.
+      pub folding-stops : {number : ℕ} → step ≡ Refused number → Folds n p form (Refused number) old w′
+      unfolding folded finished
+      folding-stops {number} refused =
+          record {
+            ends =
+                ap (λ count. tab count 0 (λ s. row (foldedColumn p (rowIn form 0) (rowOf (tableOf n old) s)))) (table-length n (old .nums) (old .dens))
+                ∙ tab-stopped (λ s. row (foldedColumn p (rowIn form 0) (rowOf (tableOf n old) s))) n 0 t number below (λ s h. (rowAt (w .nums) (w .dens) (COLUMNS * s), rw zero-add (folding .folded-below s h)))
+                (rw zero-add (finished-refused _ row-read refused));
+            kept = all-kept (COLUMNS * n) (omega arith);
+            sound = all-sound;
+            sparse = λ done. absurd (refused-not-done done);
+            stirred = all-stirred;
+          }
+
+    -- Rows that hold 0 at p are their own folds: nothing is done, and they are folded.
+    passes : {r : ℕ} → Passed n p t r (w .nums) → Folding n p form r old w
+    unfolding finished
+    passes {r} passed =
+        record {
+          most = passed .most;
+          kept = kept-within (folding .kept) 0 (COLUMNS * r) (omega arith) (omega (arith, passed .forward));
+          folded-below = λ s below. by s below (decLt s t);
+          sound = folding .sound;
+          sparse = folding .sparse;
+          stirred = folding .stirred;
         }
       where
-        by : (s : ℕ) → s < t + 1 → Dec (s ≡ t) → row (foldedColumn p form (rowOf (tableAt n nums₀ dens₀) s)) ≡ made (rowAt nums′ dens′ (65 * s))
-        by s less (yes same) = rw same (finished-done row-read done)
-        by s less (no other) = folding .folded-below s (omega arith) ∙ ap made (sym (kept-row (turn .kept) (65 * s) (inl (omega arith))))
+        by : (s : ℕ) → s < r → Dec (s < t)
+            → row (foldedColumn p (rowIn form 0) (rowOf (tableOf n old) s)) ≡ made (rowAt (w .nums) (w .dens) (COLUMNS * s))
+        by s below (yes before) = folding .folded-below s before
+        by s below (no after) =
+            let inside : s < n = omega (arith, passed .most) in
+            let term = asked .unknown .term in
+            let none = zero-numerator (folding .sound .good (COLUMNS * s + p) (omega arith)) (passed .nothing s (omega arith) below) in
+            ap (λ r. row (foldedColumn p (rowIn form 0) r)) (row-held n (old .nums) (old .dens) s inside ∙ sym (kept-row (folding .kept) (COLUMNS * s) (inr (omega arith))))
+            ∙ row-passed (foldable s inside) none .row-made .ends
 
-    -- A row is refused: the fold is.
-    pub folding-stops : {number : ℕ} → step ≡ Refused number → Folded p form n (Refused number) nums₀ dens₀ nums′ dens′
-    unfolding folded finished
-    folding-stops {number} refused = (
-      ap (λ count. tab count 0 (λ s. row (foldedColumn p form (rowOf (tableAt n nums₀ dens₀) s)))) (table-length n nums₀ dens₀)
-          ∙ tab-stopped (λ s. row (foldedColumn p form (rowOf (tableAt n nums₀ dens₀) s))) n 0 t number below (λ s h. (rowAt nums dens (65 * s), rw zero-add (folding .folded-below s h)))
-          (rw zero-add (finished-refused _ row-read refused)),
-      (all-kept (65 * n) (omega arith), all-sound),
-    )
+  -- A row is folded, and those behind it that hold 0 at p are passed over.
+  pub folding-goes-on : {t r : ℕ} {w w′ : Work} {step : Step} → Folding n p form t old w → t < n → FoldsRow t p set form step w w′
+      → step ≡ Done → Passed n p (t + 1) r (w′ .nums) → Folding n p form r old w′
+  folding-goes-on folding below folds done passed = passes (one-more folding below folds done) passed
 
-  -- Rows that hold 0 at p are their own folds: nothing is done, and they are folded.
-  pub folding-passes : (form-nums form-dens : List ℤ) → form ≡ rowAt form-nums form-dens 0 → p < 64 → {from r : ℕ} {nums dens : List ℤ} → Passed n p from r nums → Folding p form n from nums₀ dens₀ nums dens → Folding p form n r nums₀ dens₀ nums dens
-  unfolding finished
-  folding-passes form-nums form-dens is unknown {from} {r} {nums} {dens} passed folding =
+  -- The rows behind a folded one can be looked at for p.
+  pub folding-seeks : {t : ℕ} {w : Work} {step : Step} {nums dens : List ℤ} {sets : List ℕ} → Folding n p form t old w → t < n
+      → FoldsRow t p set form step w (record { nums = nums; dens = dens; sets = sets }) → Passable n p (t + 1) nums
+  folding-seeks folding below folds =
+      let rows = asked .rows in
       record {
-        kept = kept-within (folding .kept) 0 (65 * r) (omega arith) (omega (arith, passed .forward));
-        folded-below = λ s below. by s below (decLt s from);
-        sound = folding .sound;
+        few = rows .few;
+        unknown = asked .unknown .term;
+        from-here = omega arith;
+        fit = omega (arith, rows .nums-fit, folding .kept .nums-length, folds .columns .row-made .kept .nums-length);
       }
-    where
-      by : (s : ℕ) → s < r → Dec (s < from) → row (foldedColumn p form (rowOf (tableAt n nums₀ dens₀) s)) ≡ made (rowAt nums dens (65 * s))
-      by s below (yes before) = folding .folded-below s before
-      by s below (no after) =
-          let inside : s < n = omega (arith, passed .most) in
-          let none = zero-numerator (folding .sound .good (65 * s + p) (omega arith)) (passed .nothing s (omega arith) below) in
-          ap (λ r. row (foldedColumn p form r)) (row-held n nums₀ dens₀ s inside ∙ sym (kept-row (folding .kept) (65 * s) (inr (omega arith))))
-          ∙ ap (λ f. row (foldedColumn p f (rowAt nums dens (65 * s)))) is
-          ∙ row-passed p (65 * s) form-nums form-dens nums dens unknown none (sound-fewer (65 * s + 65) (omega arith) (folding .sound)) .ends
 
   -- All rows are folded: the table is.
-  pub folding-ends : {t : ℕ} {nums dens : List ℤ} → t ≡ n → Folding p form n t nums₀ dens₀ nums dens → Folded p form n Done nums₀ dens₀ nums dens
+  pub folding-ends : {t : ℕ} {w : Work} → Folding n p form t old w → n ≤ t → Folds n p form Done old w
   unfolding folded finished tableAt
-  folding-ends {t} {nums} {dens} all folding = (
-    ap (λ count. tab count 0 (λ s. row (foldedColumn p form (rowOf (tableAt n nums₀ dens₀) s)))) (table-length n nums₀ dens₀)
-        ∙ tab-listed (λ s. row (foldedColumn p form (rowOf (tableAt n nums₀ dens₀) s))) (λ s. rowAt nums dens (65 * s)) n 0 (λ s below. rw zero-add (folding .folded-below s (omega arith))),
-    (kept-within (folding .kept) 0 (65 * n) (omega arith) (omega arith), folding .sound),
-  )
+  folding-ends {t} {w} folding over =
+      let most = folding .most in
+      record {
+        ends =
+            ap (λ count. tab count 0 (λ s. row (foldedColumn p (rowIn form 0) (rowOf (tableOf n old) s)))) (table-length n (old .nums) (old .dens))
+            ∙ tab-listed (λ s. row (foldedColumn p (rowIn form 0) (rowOf (tableOf n old) s))) (λ s. rowAt (w .nums) (w .dens) (COLUMNS * s)) n 0 (λ s below. rw zero-add (folding .folded-below s (omega arith)));
+        kept = kept-within (folding .kept) 0 (COLUMNS * n) (omega arith) (omega arith);
+        sound = folding .sound;
+        sparse = λ done. folding .sparse;
+        stirred = folding .stirred;
+      }

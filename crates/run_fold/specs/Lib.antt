@@ -1,3 +1,2 @@
 pub mod Cell
-pub mod Rows
-pub mod Sets
+pub mod Contract

@@ -1,31 +1,23 @@
-// Folding a solved form into the rows of the table.
+// Folding a solved form into the rows of the table: into every row that holds the solved unknown, and in a row only into the columns that
+// the form can have.
 use fraction::Fraction;
 use fraction_reduce::Tested;
 use rules_problem::COLUMNS;
 use run_table::PENDING;
 use run_table::Step;
 use run_table::USERS;
-ghost use mathlib.Core.Path.{_≡_};
-ghost use mathlib.Core.Bool.{true};
-ghost use Prim.Native.Nat.{_+_, _*_, _<_, _≤_};
-ghost use lib.ListN.{length};
-ghost use Rattle.set_members.specs.Sets.{holds};
 ghost use Rattle.fraction.specs.Exact.{value};
-ghost use Rattle.fraction_reduce.specs.Values.{Good, Answers};
-ghost use Rattle.rules_run.specs.Merge.{foldedColumn, folded};
-ghost use Rattle.run_table.specs.Held.{rowAt, tableAt, SoundTo, finished};
-ghost use Rattle.run_table.specs.Loop.{Kept, RowMade};
-ghost use Rattle.run_table.specs.Sparse.{Within, Sparse, Stirred};
-ghost use Rattle.run_table.specs.declared.Step.the-variants.{Done};
-ghost use Rattle.run_fold.specs.Cell.{gainedBy, reached, gainedColumn};
-ghost use Rattle.run_fold.specs.Sets.{Noted, Turn};
-ghost use Rattle.run_fold.specs.Rows.{Passed};
+ghost use Rattle.fraction_reduce.specs.Values.{Answers};
+ghost use Rattle.run_table.specs.Lists.{lists, atEntry, atExit};
+ghost use Rattle.run_table.specs.Work.{lent, entered, leaving};
+ghost use Rattle.run_fold.specs.Cell.{gainedBy};
+ghost use Rattle.run_fold.specs.Contract.{Gainable, GainableRow, GainsRow, FoldableAt, FoldsAt};
+ghost use Rattle.run_fold.specs.Contract.{Notable, Noted, FoldableRow, FoldsRow, Passable, Passed, Foldable, Folds};
 
-// The old number gains k times the form's: one product, one sum. 1 time the form is the form: that needs no product.
+// A number of a row gains k times the form's: one product, one sum. Where k is 1 the product is the form's own number, which is within the
+// limits already, so that only the sum is made.
 fn gained(k: Fraction, form: Fraction, old: Fraction) -> Tested
-    requires { ⌜ Good k ⌝ }
-    requires { ⌜ Good form ⌝ }
-    requires { ⌜ Good old ⌝ }
+    requires { ⌜ Gainable k form old ⌝ }
     ensures { λ r. ⌜ Answers r (gainedBy (value k) (value form) (value old)) ⌝ }
 {
     if k.den == 1 {
@@ -39,7 +31,8 @@ fn gained(k: Fraction, form: Fraction, old: Fraction) -> Tested
     }
 }
 
-// The columns of a set, and the constant's, of the row at base: each gains k times the form's. Where the form holds 0 the number stands.
+// The row at base gains k times the form in the columns of a set, in rising order, and last in the constant's. Where the form holds 0 a
+// column gains 0, and keeps its number.
 fn gain_columns(
     nums: &mut [i32],
     dens: &mut [i32],
@@ -49,12 +42,8 @@ fn gain_columns(
     form_nums: &[i32],
     form_dens: &[i32],
 ) -> Step
-    requires { ⌜ (base + 65 ≤ 4160) × (4160 ≤ length (now nums)) × (4160 ≤ length (now dens)) ⌝ }
-    requires { ⌜ (65 ≤ length (now «form_nums»)) × (65 ≤ length (now «form_dens»)) ⌝ }
-    requires { ⌜ Good k ⌝ }
-    requires { ⌜ SoundTo (base + 65) (now nums) (now dens) ⌝ }
-    requires { ⌜ SoundTo 65 (now «form_nums») (now «form_dens») ⌝ }
-    ensures { λ r. ⌜ RowMade (reached set (gainedColumn (value k) (rowAt (now («form_nums» .entry)) (now («form_dens» .entry)) 0) (rowAt (now (nums .entry)) (now (dens .entry)) base)) (rowAt (now (nums .entry)) (now (dens .entry)) base)) base (base + 65) r (now (nums .entry)) (now (dens .entry)) (now (nums .exit)) (now (dens .exit)) ⌝ }
+    requires { ⌜ GainableRow base k (lists nums dens) (lists «form_nums» «form_dens») ⌝ }
+    ensures { λ r. ⌜ GainsRow base k set (atEntry «form_nums» «form_dens») r (atEntry nums dens) (atExit nums dens) ⌝ }
 {
     let mut rest = set;
     let mut c: usize = 0;
@@ -74,8 +63,8 @@ fn gain_columns(
     Step::Done
 }
 
-// The columns of the row at base, with the form of p folded in. The coefficient at p becomes 0; of the others, those where the form
-// holds 0 stand, so that only those of its set are gone through, and the constant's.
+// The form of p is folded into the row at base: its coefficient k at p becomes 0, and each other column gains k times the form's. Outside
+// the form's set the form holds 0, so that only the columns of the set have to be gone through, without p, and the constant's.
 fn fold_columns(
     nums: &mut [i32],
     dens: &mut [i32],
@@ -85,13 +74,8 @@ fn fold_columns(
     form_nums: &[i32],
     form_dens: &[i32],
 ) -> Step
-    requires { ⌜ (p < 64) × (base + 65 ≤ 4160) × (4160 ≤ length (now nums)) × (4160 ≤ length (now dens)) ⌝ }
-    requires { ⌜ (65 ≤ length (now «form_nums»)) × (65 ≤ length (now «form_dens»)) ⌝ }
-    requires { ⌜ SoundTo (base + 65) (now nums) (now dens) ⌝ }
-    requires { ⌜ SoundTo 65 (now «form_nums») (now «form_dens») ⌝ }
-    requires { ⌜ Within set 0 (now «form_nums») ⌝ }
-    requires { ⌜ holds set p ≡ true ⌝ }
-    ensures { λ r. ⌜ RowMade (foldedColumn p (rowAt (now («form_nums» .entry)) (now («form_dens» .entry)) 0) (rowAt (now (nums .entry)) (now (dens .entry)) base)) base (base + 65) r (now (nums .entry)) (now (dens .entry)) (now (nums .exit)) (now (dens .exit)) ⌝ }
+    requires { ⌜ FoldableAt base p set (lists nums dens) (lists «form_nums» «form_dens») ⌝ }
+    ensures { λ r. ⌜ FoldsAt base p (atEntry «form_nums» «form_dens») r (atEntry nums dens) (atExit nums dens) ⌝ }
 {
     let k = run_table::get(nums, dens, base + p);
     run_table::put(nums, dens, base + p, Fraction { num: 0, den: 1 });
@@ -106,10 +90,10 @@ fn fold_columns(
     )
 }
 
-// The form of p, with the columns of its set, comes into row t: the row may have them from then on, and p no more; and the lookups
-// that t is an input of have to be looked at again.
+// What the sets say once the form of p is folded into row t: the row can have the columns of the form's set too, and p no more; and the
+// lookups that t is an input of have to be looked at again, since the row of their input has changed.
 fn note(sets: &mut [u64], t: usize, p: usize, set: u64)
-    requires { ⌜ (t < 64) × (p < 64) × (length (now sets) ≡ 194) ⌝ }
+    requires { ⌜ Notable t p (now sets) ⌝ }
     ensures { λ r. ⌜ Noted t p set (now (sets .entry)) (now (sets .exit)) ⌝ }
 {
     let columns = set_members::without(set_members::union(sets[t], set), p);
@@ -118,8 +102,8 @@ fn note(sets: &mut [u64], t: usize, p: usize, set: u64)
     sets[PENDING] = pending;
 }
 
-// Row t, with the form of p folded in, and its sets. A row whose coefficient at p is 0 is passed over: nothing in it changes.
-// The sets are noted first, so that they are right of a row that is refused in its middle, too.
+// The form of p is folded into row t. Where the row's coefficient at p is 0 the fold changes nothing, and neither do the sets.
+// The sets are noted before the row is written, so that they are right also of a row that is refused in its middle.
 fn fold_row(
     nums: &mut [i32],
     dens: &mut [i32],
@@ -130,15 +114,8 @@ fn fold_row(
     form_dens: &[i32],
     sets: &mut [u64],
 ) -> Step
-    requires { ⌜ (t < 64) × (p < 64) × (4160 ≤ length (now nums)) × (4160 ≤ length (now dens)) ⌝ }
-    requires { ⌜ (65 ≤ length (now «form_nums»)) × (65 ≤ length (now «form_dens»)) ⌝ }
-    requires { ⌜ SoundTo (65 * t + 65) (now nums) (now dens) ⌝ }
-    requires { ⌜ SoundTo 65 (now «form_nums») (now «form_dens») ⌝ }
-    requires { ⌜ Within set 0 (now «form_nums») ⌝ }
-    requires { ⌜ holds set p ≡ true ⌝ }
-    requires { ⌜ length (now sets) ≡ 194 ⌝ }
-    ensures { λ r. ⌜ RowMade (foldedColumn p (rowAt (now («form_nums» .entry)) (now («form_dens» .entry)) 0) (rowAt (now (nums .entry)) (now (dens .entry)) (65 * t))) (65 * t) (65 * t + 65) r (now (nums .entry)) (now (dens .entry)) (now (nums .exit)) (now (dens .exit)) ⌝ }
-    ensures { λ r. ⌜ Turn t p set (now (nums .entry)) (now (dens .entry)) (now (nums .exit)) (now (dens .exit)) (now (sets .entry)) (now (sets .exit)) ⌝ }
+    requires { ⌜ FoldableRow t p set (lists «form_nums» «form_dens») (lent nums dens sets) ⌝ }
+    ensures { λ r. ⌜ FoldsRow t p set (atEntry «form_nums» «form_dens») r (entered nums dens sets) (leaving nums dens sets) ⌝ }
 {
     let base = COLUMNS * t;
     let k = run_table::get(nums, dens, base + p);
@@ -149,9 +126,9 @@ fn fold_row(
     fold_columns(nums, dens, base, p, set, form_nums, form_dens)
 }
 
-// The next row from one on that holds p, or n: the rows before it have nothing to fold.
+// The first row from `from` on whose coefficient at p is not 0, or n where there is none. The rows before it are their own folds.
 fn next_row(nums: &[i32], n: usize, p: usize, from: usize) -> usize
-    requires { ⌜ (n ≤ 64) × (p < 64) × (from ≤ n) × (4160 ≤ length (now nums)) ⌝ }
+    requires { ⌜ Passable n p from (now nums) ⌝ }
     ensures { λ r. ⌜ Passed n p from r (now (nums .entry)) ⌝ }
 {
     let mut t = from;
@@ -166,7 +143,7 @@ fn next_row(nums: &[i32], n: usize, p: usize, from: usize) -> usize
 }
 
 // 01, Merge: "in each row with coefficient k there, that coefficient becomes 0, and each other column gains k times the solved
-// column". The form stands in the first 65 places of its two lists; its set holds p, and the columns where the form is not 0.
+// column". The form stands in the first places of its two lists; its set holds p, and every term's column where the form is not 0.
 pub fn fold_rows(
     nums: &mut [i32],
     dens: &mut [i32],
@@ -177,19 +154,8 @@ pub fn fold_rows(
     form_dens: &[i32],
     sets: &mut [u64],
 ) -> Step
-    requires { ⌜ (n ≤ 64) × (p < 64) × (4160 ≤ length (now nums)) × (4160 ≤ length (now dens)) ⌝ }
-    requires { ⌜ (65 ≤ length (now «form_nums»)) × (65 ≤ length (now «form_dens»)) ⌝ }
-    requires { ⌜ SoundTo (65 * n) (now nums) (now dens) ⌝ }
-    requires { ⌜ SoundTo 65 (now «form_nums») (now «form_dens») ⌝ }
-    requires { ⌜ Within set 0 (now «form_nums») ⌝ }
-    requires { ⌜ holds set p ≡ true ⌝ }
-    requires { ⌜ length (now sets) ≡ 194 ⌝ }
-    requires { ⌜ Sparse n (now nums) (now sets) ⌝ }
-    ensures { λ r. ⌜ folded p (rowAt (now («form_nums» .entry)) (now («form_dens» .entry)) 0) (tableAt n (now (nums .entry)) (now (dens .entry))) ≡ finished r (tableAt n (now (nums .exit)) (now (dens .exit))) ⌝ }
-    ensures { λ r. ⌜ Kept 0 (65 * n) (now (nums .entry)) (now (dens .entry)) (now (nums .exit)) (now (dens .exit)) ⌝ }
-    ensures { λ r. ⌜ SoundTo (65 * n) (now (nums .exit)) (now (dens .exit)) ⌝ }
-    ensures { λ r. ⌜ (r ≡ Done → Sparse n (now (nums .exit)) (now (sets .exit))) ⌝ }
-    ensures { λ r. ⌜ Stirred n (now (nums .entry)) (now (dens .entry)) (now (nums .exit)) (now (dens .exit)) (now (sets .entry)) (now (sets .exit)) ⌝ }
+    requires { ⌜ Foldable n p set (lists «form_nums» «form_dens») (lent nums dens sets) ⌝ }
+    ensures { λ r. ⌜ Folds n p (atEntry «form_nums» «form_dens») r (entered nums dens sets) (leaving nums dens sets) ⌝ }
 {
     let mut t: usize = 0;
     while t < n {

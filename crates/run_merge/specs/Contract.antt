@@ -1,21 +1,16 @@
 -- What the functions of a merge ask for, and what they ensure.
--- Main definitions: `Mergeable`, `Settleable`, `Solvable`, `Left`, `Solves`, `Settles`, `Merges`. Assume nothing.
+-- Main definitions: `Mergeable`, `Settleable`, `Solvable`, `Hints`, `Left`, `stateOf`, `Solves`, `Settles`, `Merges`. Assume nothing.
 use mathlib.Core.Path.{_≡_}
-use mathlib.Core.Bool.{true}
-use mathlib.Core.List.{List}
-use Prim.Native.Nat.{ℕ, _*_, _<_, _≤_}
+use Prim.Native.Nat.{ℕ, _*_, _<_}
 use lib.ListN.{length}
-use lib.IntN.{ℤ}
-use Rattle.set_members.specs.Sets.{holds}
-use denote.Ref.{RefT, now}
-use denote.Triple.Both.{Both}
 use Rattle.fraction.specs.Made.{because}
-use Rattle.rules_run.specs.Row.{Row, TERMS}
-use Rattle.rules_run.specs.Merge.{outside, pivot, solve, settle, merge}
+use Rattle.rules_run.specs.Row.{Row, TERMS, COLUMNS}
+use Rattle.rules_run.specs.Merge.{State, outside, pivot, solve, settle, merge}
 use Rattle.rules_run.specs.Run.{byNumber}
-use Rattle.run_table.specs.Held.{rowAt, SoundTo}
+use Rattle.run_table.specs.Held.{SoundTo}
+use Rattle.run_table.specs.Lists.{Lists, RowWithin, Unknown}
 use Rattle.run_table.specs.Loop.{Kept}
-use Rattle.run_table.specs.Sparse.{Within, Sparse, Stirred}
+use Rattle.run_table.specs.Sparse.{Sparse, Stirred}
 use Rattle.run_table.specs.Work.{Work, tableOf, Rows}
 use Rattle.run_merge.specs.declared.Merged.{Merged}
 use Rattle.run_merge.specs.Outcome.{merged, Unstopped}
@@ -26,23 +21,15 @@ pub record Mergeable (n t u : ℕ) (w : Work) : Type 0 where
   pub left : t < n
   pub right : u < n
 
--- a difference to be settled: sound, and within a set
-pub record Settleable (n set : ℕ) (nums dens : List ℤ) (w : Work) : Type 0 where
+-- a difference to be settled, in two lists of its own and without a column outside the set
+pub record Settleable (n set : ℕ) (d : Lists) (w : Work) : Type 0 where
   pub rows : Rows n w
-  pub nums-fit : 65 ≤ length nums
-  pub dens-fit : 65 ≤ length dens
-  pub sound : SoundTo 65 nums dens
-  pub within : Within set 0 nums
+  pub difference : RowWithin set 0 d
 
 -- and an unknown of it to be solved
-pub record Solvable (n p set : ℕ) (nums dens : List ℤ) (w : Work) : Type 0 where
-  pub unknown : p < 64
-  pub inside : holds set p ≡ true
-  pub difference : Settleable n set nums dens w
-
--- the row that two lists of 65 places hold when a function begins
-abbrev pub rowIn : (nums dens : Both (RefT (List ℤ)) (RefT (List ℤ))) → Row
-rowIn nums dens = rowAt (now (nums .entry)) (now (dens .entry)) 0
+pub record Solvable (n p set : ℕ) (d : Lists) (w : Work) : Type 0 where
+  pub unknown : Unknown p set
+  pub settleable : Settleable n set d w
 
 -- what the sets say, where nothing stops
 pub record Hints (n : ℕ) (old new : Work) : Type 0 where
@@ -51,24 +38,28 @@ pub record Hints (n : ℕ) (old new : Work) : Type 0 where
 
 -- what each of them leaves, whatever it answers
 pub record Left (n : ℕ) (r : Merged) (old new : Work) : Type 0 where
-  pub kept : Kept 0 (65 * n) (old .nums) (old .dens) (new .nums) (new .dens)
-  pub sound : SoundTo (65 * n) (new .nums) (new .dens)
+  pub kept : Kept 0 (COLUMNS * n) (old .nums) (old .dens) (new .nums) (new .dens)
+  pub sound : SoundTo (COLUMNS * n) (new .nums) (new .dens)
   pub size : length (new .sets) ≡ length (old .sets)
   pub hints : Unstopped r (Hints n old new)
 
+-- the state that the lists hold, where `solved` unknowns were solved
+abbrev pub stateOf : (n : ℕ) → Work → (solved : ℕ) → State
+stateOf n w solved = record { table = tableOf n w; solved = solved }
+
 -- The answer and the table are those of the rule, however many unknowns were solved before: the unknown p solved from the difference d,
 pub record Solves (n p : ℕ) (d : Row) (r : Merged) (old new : Work) : Type 0 where
-  pub answers : (solved : ℕ) → because outside (solve p d (record { table = tableOf n old; solved = solved })) ≡ merged r solved (tableOf n new)
+  pub answers : (solved : ℕ) → because outside (solve p d (stateOf n old solved)) ≡ merged r solved (tableOf n new)
   pub left : Left n r old new
 
 -- the difference settled,
 pub record Settles (n : ℕ) (d : Row) (r : Merged) (old new : Work) : Type 0 where
-  pub answers : (solved : ℕ) → settle d (record { table = tableOf n old; solved = solved }) (pivot byNumber TERMS d) ≡ merged r solved (tableOf n new)
+  pub answers : (solved : ℕ) → settle d (stateOf n old solved) (pivot byNumber TERMS d) ≡ merged r solved (tableOf n new)
   pub left : Left n r old new
 
 -- the terms t and u merged.
 pub record Merges (n t u : ℕ) (r : Merged) (old new : Work) : Type 0 where
-  pub answers : (solved : ℕ) → merge byNumber t u (record { table = tableOf n old; solved = solved }) ≡ merged r solved (tableOf n new)
+  pub answers : (solved : ℕ) → merge byNumber t u (stateOf n old solved) ≡ merged r solved (tableOf n new)
   pub left : Left n r old new
 
 -- what a merge left

@@ -3,8 +3,9 @@ use rules_problem::COLUMNS;
 use rules_problem::TERMS;
 use run_pivot::Found;
 use run_table::Step;
+ghost use Rattle.run_table.specs.Lists.{lists, atEntry, rowIn};
 ghost use Rattle.run_table.specs.Work.{lent, entered, leaving};
-ghost use Rattle.run_merge.specs.Contract.{Mergeable, Settleable, Solvable, rowIn, Solves, Settles, Merges};
+ghost use Rattle.run_merge.specs.Contract.{Mergeable, Settleable, Solvable, Solves, Settles, Merges};
 
 // What a merge does: nothing, where the rows are equal; one unknown more is solved; it stops, since no reading is left, or with
 // the number of a refusal.
@@ -26,8 +27,8 @@ fn solve(
     d_dens: &mut [i32],
     sets: &mut [u64],
 ) -> Merged
-    requires { ⌜ Solvable n p set (now «d_nums») (now «d_dens») (lent nums dens sets) ⌝ }
-    ensures { λ r. ⌜ Solves n p (rowIn «d_nums» «d_dens») r (entered nums dens sets) (leaving nums dens sets) ⌝ }
+    requires { ⌜ Solvable n p set (lists «d_nums» «d_dens») (lent nums dens sets) ⌝ }
+    ensures { λ r. ⌜ Solves n p (rowIn (atEntry «d_nums» «d_dens») 0) r (entered nums dens sets) (leaving nums dens sets) ⌝ }
 {
     match run_solve::solve_for(d_nums, d_dens, p, set) {
         Step::Done => match run_fold::fold_rows(nums, dens, n, p, set, d_nums, d_dens, sets) {
@@ -48,8 +49,8 @@ fn settle(
     d_dens: &mut [i32],
     sets: &mut [u64],
 ) -> Merged
-    requires { ⌜ Settleable n set (now «d_nums») (now «d_dens») (lent nums dens sets) ⌝ }
-    ensures { λ r. ⌜ Settles n (rowIn «d_nums» «d_dens») r (entered nums dens sets) (leaving nums dens sets) ⌝ }
+    requires { ⌜ Settleable n set (lists «d_nums» «d_dens») (lent nums dens sets) ⌝ }
+    ensures { λ r. ⌜ Settles n (rowIn (atEntry «d_nums» «d_dens») 0) r (entered nums dens sets) (leaving nums dens sets) ⌝ }
 {
     match run_pivot::pivot(d_nums, d_dens, set) {
         Found::At(p) => solve(nums, dens, n, p, set, d_nums, d_dens, sets),

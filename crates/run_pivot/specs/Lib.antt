@@ -1,1 +1,1 @@
-pub mod Pivoted
+pub mod Contract

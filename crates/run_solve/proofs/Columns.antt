@@ -1,67 +1,69 @@
--- The columns of a solved form: those that the loop comes to, and the row that it makes with 0 in the column of the unknown.
--- Main results: `column-scaled`, `row-solved`, `within-apart`, `within-again`. Assume nothing.
-use mathlib.Core.Path.{_≡_, refl, sym, ap, ap₂, _∙_}
-use mathlib.Core.Logic.{inr}
-use mathlib.Core.Bool.{false, not, _&&_, and-false}
+-- The loop that multiplies the columns of a difference by a factor: how it begins, what a turn makes of a column, and what it leaves.
+-- Main results: `scaling-starts`, `scaling-asks`, `scaling-stores`, `scaling-stops`, `scaling-ends`. Assume nothing.
+use mathlib.Core.Path.{_≡_, sym, ap, _∙_, subst}
 use mathlib.Core.List.{List}
-use Prim.Native.Nat.{ℕ, _+_, _<_}
+use Prim.Native.Nat.{ℕ, _+_, _≤_, _<_}
 use native.Mathlib.Nat.{zero-add}
-use native.Mathlib.Decide.{ℕ-discrete}
 use native.Mathlib.Omega.{arith}
-use borrow.Author.Tests.{ne-eqb}
-use lib.Dec.{eqb}
-use lib.IntN.{ℤ, pos}
-use lib.ListN.{getD}
-use Rattle.set_members.specs.Sets.{holds}
+use lib.IntN.{ℤ}
+use lib.ListN.{set as stored-at}
+use Rattle.set_extremes.specs.Extremes.{Next, Rest}
 use Rattle.fraction.specs.declared.Fraction.{Fraction}
-use Rattle.fraction.specs.Exact.{ℚ, value, zeroℚ, negℚ, inverse}
+use Rattle.fraction.specs.Exact.{value}
 use Rattle.fraction.specs.Limits.{times}
-use Rattle.fraction.specs.Made.{Made, made}
-use Rattle.fraction_reduce.specs.Values.{Stands}
-use Rattle.rules_run.specs.Row.{column}
-use Rattle.rules_run.specs.Merge.{solvedColumn}
+use Rattle.fraction_reduce.specs.Values.{Answers}
+use Rattle.fraction_reduce.specs.declared.Tested.{Tested}
+use Rattle.fraction_reduce.specs.declared.Tested.the-variants.{Fits, Refused}
+use Rattle.rules_run.specs.Row.{COLUMNS}
 use Rattle.run_table.specs.declared.Step.{Step}
-use Rattle.run_table.specs.Held.{heldAt, rowAt, SoundTo}
-use Rattle.run_table.specs.Loop.{Making, RowMade}
-use Rattle.run_table.specs.Sparse.{Within}
-use Rattle.run_table.proofs.Columns.{column-first}
-use Rattle.run_table.proofs.Sparse.{within-more}
-use Rattle.run_fold.specs.Cell.{reached}
-use Rattle.run_fold.proofs.Reached.{Stored, stored-other, row-apart}
-use Rattle.run_difference.proofs.Columns.{column-nothing}
+use Rattle.run_table.specs.declared.Step.the-variants.{Done, Refused as Stopped}
+use Rattle.run_table.specs.Held.{heldAt, rowAt}
+use Rattle.run_table.specs.Lists.{both}
+use Rattle.run_table.proofs.Columns.{column-held}
+use Rattle.run_table.proofs.OverSet.{Taking, taking-starts, taking-next, taking-stores, taking-stops, taking-ends, going-reads, going-good, Gone, gone-within}
+use Rattle.run_table.proofs.Reached.{reached-next, reached-leaves}
 use Rattle.run_solve.specs.Cell.{scaledColumn}
-use Rattle.run_solve.proofs.Cells.{solved-itself, solved-other, solved-nothing}
+use Rattle.run_solve.specs.Contract.{Scalable, ScalableRow, scaledIn, ScalesRow}
 
--- The loop reads the difference as it was at its beginning; from column c on the lists still hold that.
-pub column-scaled : (factor : ℚ) {m c : ℕ} {g : ℕ → Made ℕ ℚ} {nums₀ dens₀ nums dens : List ℤ} {x : Fraction} → Making g 0 m c nums₀ dens₀ nums dens → c < 65 → x ≡ heldAt nums dens c → times factor (value x) ≡ scaledColumn factor (rowAt nums₀ dens₀ 0) c
-unfolding scaledColumn
-column-scaled factor {c = c} {nums₀ = nums₀} {dens₀} making below here =
-    ap (times factor) (ap value (here ∙ making .kept .outside c (inr (omega arith))) ∙ sym (column-first nums₀ dens₀ c below))
+module _ {factor : Fraction} {set : ℕ} {nums₀ dens₀ : List ℤ} (asked : ScalableRow factor set (both nums₀ dens₀)) where
+  pub scaling-starts : Taking (scaledIn factor set (both nums₀ dens₀)) 0 COLUMNS set 0 set nums₀ dens₀ nums₀ dens₀
+  scaling-starts =
+      let held = asked .row .held in
+      taking-starts (held .nums-fit) (held .dens-fit) (omega arith) (held .sound) (reached-leaves (scaledColumn (value factor) (rowAt nums₀ dens₀ 0)) set 0 nums₀ dens₀)
 
-module _ (p set others : ℕ) (without : (c : ℕ) → holds others c ≡ (not (eqb c p) && holds set c)) where
-  -- The form is made where 0 is stored in column p, and the other columns of the set, with the constant's, are multiplied by the factor.
-  pub row-solved : {k factor f : Fraction} {step : Step} {nums₀ dens₀ nums₁ dens₁ nums dens : List ℤ} → p < 64 → SoundTo 65 nums₀ dens₀ → Within set 0 nums₀ → k ≡ heldAt nums₀ dens₀ p → Stands factor (negℚ (inverse (value k))) → Stored p f nums₀ dens₀ nums₁ dens₁ → value f ≡ zeroℚ → RowMade (reached others (scaledColumn (value factor) (rowAt nums₁ dens₁ 0)) (rowAt nums₁ dens₁ 0)) 0 65 step nums₁ dens₁ nums dens → RowMade (solvedColumn p (rowAt nums₀ dens₀ 0)) 0 65 step nums₀ dens₀ nums dens
-  unfolding scaledColumn
-  row-solved {k} {factor} {f} {nums₀ = nums₀} {dens₀} {nums₁} {dens₁} unknown sound within divisor stands stored nought =
-      let d = rowAt nums₀ dens₀ 0 in
-      let there : Stored (0 + p) f nums₀ dens₀ nums₁ dens₁ = rw zero-add stored in
-      let factor-is : negℚ (inverse (column d p)) ≡ value factor = ap (λ q. negℚ (inverse q)) (column-first nums₀ dens₀ p (omega arith) ∙ sym (ap value divisor)) ∙ sym (stands .same) in
-      row-apart p 0 unknown there set others without nought (solved-itself p d p refl)
-      (λ c below other. solved-other p d c other ∙ ap₂ times factor-is (sym (stored-other p 0 unknown there c below other)))
-      (λ c below other out.
-      let none = column-nothing c within sound (omega arith) below out in
-      solved-nothing p d c other none ∙ ap made (sym none))
+  over : {step : Step} {nums dens : List ℤ} → Gone (scaledIn factor set (both nums₀ dens₀)) 0 COLUMNS set step nums₀ dens₀ nums dens
+      → ScalesRow factor set step (both nums₀ dens₀) (both nums dens)
+  over gone = record { row-made = gone .row-made; within = gone-within gone (asked .row .within) }
 
-  -- With 0 in column p the row lies within the other columns.
-  pub within-apart : {f : Fraction} {nums₀ dens₀ nums₁ dens₁ : List ℤ} → Within set 0 nums₀ → f .num ≡ pos 0 → Stored p f nums₀ dens₀ nums₁ dens₁ → Within others 0 nums₁
-  within-apart {nums₀ = nums₀} {nums₁ = nums₁} within none stored = record { zero = λ c below out. rw zero-add (by c below out (ℕ-discrete c p)) }
-    where
-      by : (c : ℕ) → c < 64 → holds others c ≡ false → Dec (c ≡ p) → getD nums₁ c (pos 0) ≡ pos 0
-      by c below out (yes same) = ap (λ k. getD nums₁ k (pos 0)) same ∙ ap (λ x. x .num) (stored .here) ∙ none
-      by c below out (no other) =
-          let before : holds set c ≡ false = sym (without c ∙ ap (λ b. not b && holds set c) (ne-eqb c p other)) ∙ out in
-          ap (λ x. x .num) (stored .others c other) ∙ ap (λ k. getD nums₀ k (pos 0)) (sym (zero-add c)) ∙ within .zero c below before
+  module _ {c rest at : ℕ} {nums dens : List ℤ} {x : Fraction}
+      (taking : Taking (scaledIn factor set (both nums₀ dens₀)) 0 COLUMNS set c rest nums₀ dens₀ nums dens) (more : c < COLUMNS)
+      (first : Next rest 0 at) (read : x ≡ heldAt nums dens at) where
+    pub scaling-asks : Scalable factor x
+    scaling-asks = record { factor-good = asked .factor-good; number-good = going-good (taking .going) (taking-next taking more first) (sym (zero-add at)) read }
 
-  -- What lies within the others lies within the set.
-  pub within-again : {nums : List ℤ} → Within others 0 nums → Within set 0 nums
-  within-again = within-more (λ c out. without c ∙ ap (λ b. not (eqb c p) && b) out ∙ and-false (not (eqb c p)))
+    module _ {r : Tested} (answers : Answers r (times (value factor) (value x))) where
+      -- The loop reads a number that stands as it did when the loop began: what answers for it answers for the column.
+      column-answers : Answers r (scaledIn factor set (both nums₀ dens₀) at)
+      unfolding scaledColumn
+      column-answers =
+          let next = taking-next taking more first in
+          let most = next .most in
+          let stands : heldAt nums dens at ≡ heldAt nums₀ dens₀ (0 + at) = ap (heldAt nums dens) (sym (zero-add at)) ∙ going-reads (taking .going) next in
+          subst (Answers r)
+          (ap (times (value factor)) (ap value (read ∙ stands) ∙ sym (column-held nums₀ dens₀ 0 at (omega arith)))
+          ∙ sym (reached-next set (scaledColumn (value factor) (rowAt nums₀ dens₀ 0)) (rowAt nums₀ dens₀ 0) next))
+          answers
+
+      -- It is stored, and the loop goes on; or it is refused, and the loop is over.
+      pub scaling-stores : {after : ℕ} {f : Fraction} {nums′ dens′ : List ℤ} → Rest rest after → r ≡ Fits f
+          → nums′ ≡ stored-at nums at (f .num) → dens′ ≡ stored-at dens at (f .den)
+          → Taking (scaledIn factor set (both nums₀ dens₀)) 0 COLUMNS set (at + 1) after nums₀ dens₀ nums′ dens′
+      scaling-stores others fits num den = taking-stores taking more first others column-answers fits (sym (zero-add at)) num den
+
+      pub scaling-stops : {number : ℕ} → r ≡ Refused number → ScalesRow factor set (Stopped number) (both nums₀ dens₀) (both nums dens)
+      scaling-stops refused = over (taking-stops taking more first column-answers refused)
+
+  pub scaling-ends : {c rest : ℕ} {nums dens : List ℤ}
+      → Taking (scaledIn factor set (both nums₀ dens₀)) 0 COLUMNS set c rest nums₀ dens₀ nums dens → COLUMNS ≤ c
+      → ScalesRow factor set Done (both nums₀ dens₀) (both nums dens)
+  scaling-ends taking end = over (taking-ends taking end)

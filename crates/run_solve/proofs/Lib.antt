@@ -1,3 +1,4 @@
 pub mod Cells
 pub mod Columns
+pub mod Forms
 pub mod Unique

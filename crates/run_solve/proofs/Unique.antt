@@ -1,17 +1,20 @@
 -- The contract of `run_solve::solve_for` leaves one answer.
 -- Main result: `solve-for-unique`. Assumes nothing.
-use mathlib.Core.Path.{_≡_}
-use mathlib.Core.List.{List}
-use Prim.Native.Nat.{ℕ}
 use native.Mathlib.Omega.{arith}
-use lib.IntN.{ℤ}
-use Rattle.rules_run.specs.Row.{Row}
-use Rattle.rules_run.specs.Merge.{solvedColumn}
-use Rattle.run_table.specs.declared.Step.{Step}
-use Rattle.run_table.specs.declared.Step.the-variants.{Done}
-use Rattle.run_table.specs.Loop.{RowMade}
-use Rattle.run_table.proofs.Determined.{row-made-unique}
+use denote.Ref.{now}
+use Rattle.unique.specs.Twice.{Twice}
+use Rattle.rules_run.specs.Row.{COLUMNS}
+use Rattle.run_table.specs.Lists.{lists}
+use Rattle.run_table.proofs.OverSet.{Spared}
+use Rattle.run_table.proofs.SameEnd.{SameEnd, row-same-end, within-alike}
+use Rattle.run_solve.proofs.solve_for.Kinds.{ps, r}
+use Rattle.run_solve.proofs.solve_for.Reads.{Post}
 
--- How it ends, and what it leaves where it is done. (Where it is refused, its 65 places may hold anything that is sound and lies within the set.)
-pub solve-for-unique : (p : ℕ) (d : Row) {r s : Step} {nums₀ dens₀ nums dens nums′ dens′ : List ℤ} → RowMade (solvedColumn p d) 0 65 r nums₀ dens₀ nums dens → RowMade (solvedColumn p d) 0 65 s nums₀ dens₀ nums′ dens′ → (r ≡ s) × (r ≡ Done → (nums ≡ nums′) × (dens ≡ dens′))
-solve-for-unique p d first second = row-made-unique (omega arith) first second
+-- How it ends is fixed, and both lists where it is done. Where it is refused, so is every place but those of the form in the columns of the
+-- set and the constant's: these may hold anything that is sound.
+pub solve-for-unique : Twice ps r Post λ κs (_, (_, (p, (set, _)))) x y (d-nums, (d-dens, _)) (d-nums′, (d-dens′, _)).
+    SameEnd 0 COLUMNS x y (lists d-nums d-dens) (lists d-nums′ d-dens′) × Spared set 0 (now d-nums) (now d-dens) (now d-nums′) (now d-dens′)
+solve-for-unique κs a x y end end′ first second = (
+  row-same-end (omega arith) (first .row-made) (second .row-made),
+  within-alike (omega arith) (first .row-made .sound) (second .row-made .sound) (first .within) (second .within),
+)

@@ -4,20 +4,11 @@ use fraction::Fraction;
 use fraction_reduce::Tested;
 use rules_problem::COLUMNS;
 use run_table::Step;
-ghost use mathlib.Core.Path.{_≡_};
-ghost use mathlib.Core.Bool.{true};
-ghost use Prim.Native.Nat.{_<_, _≤_};
-ghost use lib.ListN.{length};
 ghost use Rattle.fraction.specs.Exact.{negℚ, inverse, value};
 ghost use Rattle.fraction.specs.Limits.{times};
 ghost use Rattle.fraction_reduce.specs.Values.{Good, Stands, Answers};
-ghost use Rattle.rules_run.specs.Merge.{solvedColumn};
-ghost use Rattle.run_table.specs.Held.{rowAt, SoundTo};
-ghost use Rattle.run_table.specs.Loop.{RowMade};
-ghost use Rattle.run_table.specs.Sparse.{Within};
-ghost use Rattle.set_members.specs.Sets.{holds};
-ghost use Rattle.run_fold.specs.Cell.{reached};
-ghost use Rattle.run_solve.specs.Cell.{scaledColumn};
+ghost use Rattle.run_table.specs.Lists.{lists, atEntry, atExit};
+ghost use Rattle.run_solve.specs.Contract.{Scalable, ScalableRow, ScalesRow, Formable, Forms};
 
 // What divides by the coefficient k and negates, as a factor: it is the same for all columns.
 fn factor_of(k: Fraction) -> Fraction
@@ -30,8 +21,7 @@ fn factor_of(k: Fraction) -> Fraction
 
 // The factor times a number of the difference. Times 1 and times -1, which are the factor of most unknowns, need no product.
 fn scaled(factor: Fraction, x: Fraction) -> Tested
-    requires { ⌜ Good factor ⌝ }
-    requires { ⌜ Good x ⌝ }
+    requires { ⌜ Scalable factor x ⌝ }
     ensures { λ r. ⌜ Answers r (times (value factor) (value x)) ⌝ }
 {
     if factor.den == 1 {
@@ -47,12 +37,8 @@ fn scaled(factor: Fraction, x: Fraction) -> Tested
 
 // The columns of a set, and the constant's: each is multiplied by the factor.
 fn scale_columns(d_nums: &mut [i32], d_dens: &mut [i32], factor: Fraction, set: u64) -> Step
-    requires { ⌜ (65 ≤ length (now «d_nums»)) × (65 ≤ length (now «d_dens»)) ⌝ }
-    requires { ⌜ Good factor ⌝ }
-    requires { ⌜ SoundTo 65 (now «d_nums») (now «d_dens») ⌝ }
-    requires { ⌜ Within set 0 (now «d_nums») ⌝ }
-    ensures { λ r. ⌜ RowMade (reached set (scaledColumn (value factor) (rowAt (now («d_nums» .entry)) (now («d_dens» .entry)) 0)) (rowAt (now («d_nums» .entry)) (now («d_dens» .entry)) 0)) 0 65 r (now («d_nums» .entry)) (now («d_dens» .entry)) (now («d_nums» .exit)) (now («d_dens» .exit)) ⌝ }
-    ensures { λ r. ⌜ Within set 0 (now («d_nums» .exit)) ⌝ }
+    requires { ⌜ ScalableRow factor set (lists «d_nums» «d_dens») ⌝ }
+    ensures { λ r. ⌜ ScalesRow factor set r (atEntry «d_nums» «d_dens») (atExit «d_nums» «d_dens») ⌝ }
 {
     let mut rest = set;
     let mut c: usize = 0;
@@ -74,12 +60,8 @@ fn scale_columns(d_nums: &mut [i32], d_dens: &mut [i32], factor: Fraction, set: 
 // 01, Merge: "every other column is divided by that coefficient and negated". The form takes the difference's place; in the column of
 // the unknown itself it holds 0.
 pub fn solve_for(d_nums: &mut [i32], d_dens: &mut [i32], p: usize, set: u64) -> Step
-    requires { ⌜ (p < 64) × (65 ≤ length (now «d_nums»)) × (65 ≤ length (now «d_dens»)) ⌝ }
-    requires { ⌜ SoundTo 65 (now «d_nums») (now «d_dens») ⌝ }
-    requires { ⌜ Within set 0 (now «d_nums») ⌝ }
-    requires { ⌜ holds set p ≡ true ⌝ }
-    ensures { λ r. ⌜ RowMade (solvedColumn p (rowAt (now («d_nums» .entry)) (now («d_dens» .entry)) 0)) 0 65 r (now («d_nums» .entry)) (now («d_dens» .entry)) (now («d_nums» .exit)) (now («d_dens» .exit)) ⌝ }
-    ensures { λ r. ⌜ Within set 0 (now («d_nums» .exit)) ⌝ }
+    requires { ⌜ Formable p set (lists «d_nums» «d_dens») ⌝ }
+    ensures { λ r. ⌜ Forms p set r (atEntry «d_nums» «d_dens») (atExit «d_nums» «d_dens») ⌝ }
 {
     let factor = factor_of(run_table::get(d_nums, d_dens, p));
     run_table::put(d_nums, d_dens, p, Fraction { num: 0, den: 1 });

@@ -1,5 +1,7 @@
 pub mod Calls
 pub mod Held
+pub mod Lists
 pub mod Loop
+pub mod Reached
 pub mod Sparse
 pub mod Work

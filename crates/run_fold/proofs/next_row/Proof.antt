@@ -1,11 +1,9 @@
--- `run_fold::next_row` meets its contract. The loop's invariant: the rows passed hold 0 at p.
--- Assumes nothing.
+-- `run_fold::next_row` meets its contract. The loop's invariant: the rows passed hold 0 at p. Assumes nothing.
 use Prim.Native.Nat.{_-_}
-use native.Mathlib.Omega.{arith}
 use lib.IntN.{pos}
 use Rattle.fraction_reduce.proofs.Shortcuts.{word-is}
-use Rattle.run_fold.specs.Rows.{Passed}
-use Rattle.run_fold.proofs.Tables.{passed-more}
+use Rattle.run_fold.specs.Contract.{Passed}
+use Rattle.run_fold.proofs.Tables.{passed-starts, passed-more}
 use borrow.Author.Needs.{needs}
 use Rattle.run_fold.proofs.next_row.Statement.{statement}
 use Rattle.run_fold.proofs.next_row.Tie as tie
@@ -17,7 +15,7 @@ abbrev μ-loop : tie.MeasureT-loop
 μ-loop nums n p from t₀ t = n - t
 
 loop-holds : tie.Need-loop-holds Inv-loop μ-loop
-loop-holds c = record { forward = omega arith; most = c .pre .2; nothing = λ t above below. absurd (omega arith) }
+loop-holds c = search passed-starts
 
 mul-k : tie.Need-mul-k Inv-loop μ-loop
 mul-k c = search needs
@@ -32,7 +30,7 @@ shared-slice-copy-out-k : tie.Need-shared-slice-copy-out-k Inv-loop μ-loop
 shared-slice-copy-out-k c = search needs
 
 returns : tie.Need-returns Inv-loop μ-loop
-returns c = c .before .before .before .loop .inv
+returns c = search
 
 add-t : tie.Need-add-t Inv-loop μ-loop
 add-t c = search needs
@@ -42,10 +40,13 @@ loop-less c = search needs
 
 loop-again : tie.Need-loop-again Inv-loop μ-loop
 loop-again c =
-    passed-more (c .before .before .loop-test .taken) (word-is (pos 0) tt (record { sfits = c .before .k .given }) (c .if1 .left)) (c .before .before .before .loop .inv)
+    let read : tie.After-k Inv-loop μ-loop = search in
+    let turn : tie.In-loop Inv-loop μ-loop = search in
+    let head : tie.At-loop Inv-loop μ-loop = search in
+    passed-more (turn .loop-test .taken) (word-is (pos 0) tt (record { sfits = read .k .given }) (c .if1 .left)) (head .loop .inv)
 
 returns-2 : tie.Need-returns-2 Inv-loop μ-loop
-returns-2 c = c .before .loop .inv
+returns-2 c = search
 
 pub next-row-spec : {M : Type 1} → statement M
 next-row-spec =

@@ -1,5 +1,4 @@
 -- `run_fold::note` meets its contract. Assumes nothing.
-use denote.Ref.{now}
 use Rattle.run_fold.proofs.Sets.{sets-noted}
 use borrow.Author.Needs.{needs}
 use Rattle.run_fold.proofs.note.Statement.{statement}
@@ -46,10 +45,10 @@ same-length c = search needs
 
 returns : tie.Need-returns
 returns c =
-    let without = c .before .before .before in
-    let union = without .before in
-    let start = union .before .before .before in
-    sets-noted (start .args .t) (start .args .p) (start .args .set) (now (start .args .sets)) (union .union .result) (without .without .result) (c .union2 .result) (start .pre .0) (start .pre .2) (union .union .ensures) (without .without .ensures) (c .union2 .ensures)
+    let start : tie.Start = search in
+    let union : tie.After-union = search in
+    let without : tie.After-without = search in
+    sets-noted _ _ _ (union .union .result) (without .without .result) (c .union2 .result) (start .pre) (union .union .ensures) (without .without .ensures) (c .union2 .ensures)
 
 pub note-spec : {M : Type 1} → statement M
 note-spec =

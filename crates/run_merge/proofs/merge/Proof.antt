@@ -1,24 +1,9 @@
--- `run_merge::merge` meets its contract: the difference, then what it settles.
--- Assumes nothing.
-use mathlib.Core.Path.{_∙_}
-use native.Mathlib.Omega.{arith}
-use Prim.Native.Nat.{_+_, _*_}
-use denote.Ref.{now}
-use Rattle.run_table.specs.Held.{tableAt}
+-- `run_merge::merge` meets its contract: the difference, then what it settles. Assumes nothing.
 use Rattle.run_table.specs.Sparse.{columnsOf}
-use Rattle.run_table.proofs.Columns.{sound-zeros, sound-fewer, kept-itself}
-use Rattle.run_table.proofs.Turns.{finished-done, finished-refused}
-use Rattle.run_merge.specs.Outcome.{Unstopped}
-use Rattle.run_table.proofs.Sparse.{within-left, within-right}
-use Rattle.run_merge.proofs.Sets.{within-zeros}
-use Rattle.run_merge.proofs.Steps.{difference-made, difference-refused}
+use Rattle.run_merge.proofs.Steps.{zeros-within, merge-subtracts, merge-settles, difference-made, difference-refused}
 use borrow.Author.Needs.{needs}
 use Rattle.run_merge.proofs.merge.Statement.{statement}
 use Rattle.run_merge.proofs.merge.Tie as tie
-
--- the places, each from the next
-abbrev start : tie.After-difference → tie.Start
-start made = search
 
 mul-union : tie.Need-mul-union
 mul-union c = search needs
@@ -52,22 +37,7 @@ unfolding columnsOf
 difference-requires c κs =
     let union : tie.After-union = search in
     let start : tie.Start = search in
-    let sound = start .pre .rows .sound in
-    let sparse = start .pre .rows .sparse in
-    let left = columnsOf (now (start .args .sets)) (start .args .t) in
-    let right = columnsOf (now (start .args .sets)) (start .args .u) in (
-      omega arith,
-      (
-        (omega arith, omega arith),
-        (
-          sound-fewer _ (omega arith) sound,
-          (
-            sound-fewer _ (omega arith) sound,
-            (sound-zeros 65, (within-left left right (union .union .ensures) (sparse .within (start .args .t) (start .pre .left)), (within-right left right (union .union .ensures) (sparse .within (start .args .u) (start .pre .right)), within-zeros))),
-          ),
-        ),
-      ),
-    )
+    merge-subtracts (start .pre) (union .union .result) (union .union .ensures)
 
 enum-told : tie.Need-enum-told
 enum-told c = search needs
@@ -81,8 +51,8 @@ slice-aggregate-settle-2 c = search needs
 settle-requires : tie.Need-settle-requires
 settle-requires c κs =
     let made : tie.After-difference = search in
-    let start = start made in
-    search needs
+    let start : tie.Start = search in
+    merge-settles (start .pre) (made .difference .ensures) zeros-within
 
 enum-known-number : tie.Need-enum-known-number
 enum-known-number c = search needs
@@ -97,7 +67,7 @@ same-length-3 : tie.Need-same-length-3
 same-length-3 c = search needs
 
 returns : tie.Need-returns
-returns c = search (difference-made, finished-done)
+returns c = search difference-made
 
 same-length-4 : tie.Need-same-length-4
 same-length-4 c = search needs
@@ -106,7 +76,7 @@ same-length-5 : tie.Need-same-length-5
 same-length-5 c = search needs
 
 returns-2 : tie.Need-returns-2
-returns-2 c = search (difference-refused, finished-refused)
+returns-2 c = search difference-refused
 
 pub merge-spec : {M : Type 1} → statement M
 merge-spec =

@@ -1,7 +1,6 @@
 -- `run_solve::factor_of` meets its contract: the inverse, negated. Assumes nothing.
-use mathlib.Core.Path.{ap, _∙_}
+use Rattle.run_solve.proofs.Cells.{factor-stands}
 use borrow.Author.Needs.{needs}
-use Rattle.fraction.specs.Exact.{negℚ}
 use Rattle.run_solve.proofs.factor_of.Statement.{statement}
 use Rattle.run_solve.proofs.factor_of.Tie as tie
 
@@ -12,9 +11,7 @@ negated-requires : tie.Need-negated-requires
 negated-requires c κs = search needs
 
 returns : tie.Need-returns
-returns c =
-    let made = c .negated .ensures in
-    record { good = made .good; same = made .same ∙ ap negℚ (c .before .inverted .ensures .same) }
+returns c = search factor-stands
 
 pub factor-of-spec : {M : Type 1} → statement M
 factor-of-spec = tie.close (tie.spec inverted-requires negated-requires returns)

@@ -1,6 +1,6 @@
--- A loop over the columns of a set and the constant's: those that it comes to, and those that it passes over; and a row one of whose
--- columns is made before the loop over the others.
--- Main definition: `Stored`. Main results: `reached-next`, `reached-out`, `reached-skips`, `stores`, `stored-sound`, `stored-other`, `row-apart`. Assume nothing.
+-- A row of which the columns of a set are made anew, and the constant's; and one of whose columns is made before the others.
+-- Main definition: `Stored`. Main results: `reached-next`, `reached-out`, `reached-leaves`, `stores`, `stored-sound`, `stored-other`,
+-- `row-apart`. Assume nothing.
 use mathlib.Core.Path.{_≡_, refl, sym, ap, _∙_, subst}
 use mathlib.Core.Logic.{_⊎_, inl, inr, _≢_}
 use mathlib.Core.Bool.{Bool, true, false, not, _&&_, _||_, cond, or-true}
@@ -19,14 +19,14 @@ use Rattle.fraction.specs.declared.Fraction.{Fraction}
 use Rattle.fraction.specs.Exact.{ℚ, value, zeroℚ}
 use Rattle.fraction.specs.Made.{Made, made, _>>=_, tab}
 use Rattle.fraction_reduce.specs.Values.{Good}
-use Rattle.rules_run.specs.Row.{TERMS, COLUMNS, constant, Row, column, row}
+use Rattle.rules_run.specs.Row.{COLUMNS, constant, Row, column, row}
 use Rattle.run_table.specs.declared.Step.{Step}
 use Rattle.run_table.specs.Held.{heldAt, rowAt, SoundTo}
-use Rattle.run_table.specs.Loop.{Kept, Making, RowMade}
+use Rattle.run_table.specs.Loop.{Kept, RowMade}
+use Rattle.run_table.specs.Reached.{reached}
 use Rattle.run_table.proofs.Columns.{column-held, kept-then}
+use Rattle.run_table.proofs.OverSet.{Leaves}
 use Rattle.run_table.proofs.Rows.{held-same, held-other}
-use Rattle.run_table.proofs.Sparse.{making-skips}
-use Rattle.run_fold.specs.Cell.{reached}
 
 module _ (set : ℕ) (h : ℕ → Made ℕ ℚ) (r : Row) where
   made-there : {c : ℕ} → (holds set c || eqb c constant) ≡ true → reached set h r c ≡ h c
@@ -34,10 +34,10 @@ module _ (set : ℕ) (h : ℕ → Made ℕ ℚ) (r : Row) where
   made-there {c} there = ap (λ b. cond b (h c) (made (column r c))) there
 
   -- A column of the set is made, and the constant's.
-  pub reached-inside : (c : ℕ) → holds set c ≡ true → reached set h r c ≡ h c
+  reached-inside : (c : ℕ) → holds set c ≡ true → reached set h r c ≡ h c
   reached-inside c inside = made-there (ap (λ b. b || eqb c constant) inside)
 
-  pub reached-constant : (c : ℕ) → c ≡ 64 → reached set h r c ≡ h c
+  reached-constant : (c : ℕ) → c ≡ 64 → reached set h r c ≡ h c
   reached-constant c last = made-there (ap (λ b. holds set c || b) (eq-eqb c 64 last) ∙ or-true (holds set c))
 
   -- So the next column that the loop comes to is.
@@ -54,12 +54,11 @@ module _ (set : ℕ) (h : ℕ → Made ℕ ℚ) (r : Row) where
   reached-out c below out =
       ap (λ b. cond (b || eqb c 64) (h c) (made (column r c))) out ∙ ap (λ b. cond b (h c) (made (column r c))) (ne-eqb c 64 (λ e. omega arith))
 
--- So the loop may go on at the next column of the set.
-pub reached-skips : (h : ℕ → Made ℕ ℚ) {set c at base m : ℕ} {nums₀ dens₀ nums dens : List ℤ} → Next set c at → Making (reached set h (rowAt nums₀ dens₀ base)) base m c nums₀ dens₀ nums dens → Making (reached set h (rowAt nums₀ dens₀ base)) base m at nums₀ dens₀ nums dens
-reached-skips h {set} {c} {at} {base} {m} {nums₀} {dens₀} next making =
-    making-skips at (next .forward) (λ k above below.
-    let term : k < 64 = omega (arith, next .most) in
-    reached-out set h (rowAt nums₀ dens₀ base) k term (next .none-between k above below) ∙ ap made (column-held nums₀ dens₀ base k (omega arith))) making
+-- So the rule leaves what stands there.
+pub reached-leaves : (h : ℕ → Made ℕ ℚ) (set base : ℕ) (nums dens : List ℤ)
+    → Leaves (reached set h (rowAt nums dens base)) set base nums dens
+reached-leaves h set base nums dens =
+    record { stands = λ c below out. reached-out set h (rowAt nums dens base) c below out ∙ ap made (column-held nums dens base c (omega arith)) }
 
 -- The fraction f is stored at one place of the lists.
 pub record Stored (place : ℕ) (f : Fraction) (nums₀ dens₀ nums dens : List ℤ) : Type 0 where
@@ -68,7 +67,8 @@ pub record Stored (place : ℕ) (f : Fraction) (nums₀ dens₀ nums dens : List
   pub here : heldAt nums dens place ≡ f
   pub others : (k : ℕ) → k ≢ place → heldAt nums dens k ≡ heldAt nums₀ dens₀ k
 
-pub stores : (place : ℕ) (f : Fraction) (nums₀ dens₀ : List ℤ) {nums dens : List ℤ} → nums ≡ stored-at nums₀ place (f .num) → dens ≡ stored-at dens₀ place (f .den) → place < length nums₀ → place < length dens₀ → Stored place f nums₀ dens₀ nums dens
+pub stores : (place : ℕ) (f : Fraction) (nums₀ dens₀ : List ℤ) {nums dens : List ℤ} → nums ≡ stored-at nums₀ place (f .num)
+    → dens ≡ stored-at dens₀ place (f .den) → place < length nums₀ → place < length dens₀ → Stored place f nums₀ dens₀ nums dens
 stores place f nums₀ dens₀ num den n d =
     rw (num, den)
     record {
@@ -108,7 +108,8 @@ row-alike : (g h : ℕ → Made ℕ ℚ) → ((c : ℕ) → c < 65 → g c ≡ h
 unfolding row
 row-alike g h all = tab-alike g h COLUMNS 0 (λ c below. rw zero-add (all c below))
 
-module _ (p base : ℕ) {f : Fraction} {nums₀ dens₀ nums₁ dens₁ : List ℤ} (unknown : p < 64) (stored : Stored (base + p) f nums₀ dens₀ nums₁ dens₁) where
+module _ (p base : ℕ) {f : Fraction} {nums₀ dens₀ nums₁ dens₁ : List ℤ} (unknown : p < 64)
+    (stored : Stored (base + p) f nums₀ dens₀ nums₁ dens₁) where
   -- Every other column is what it was.
   pub stored-other : (c : ℕ) → c < 65 → c ≢ p → column (rowAt nums₁ dens₁ base) c ≡ column (rowAt nums₀ dens₀ base) c
   stored-other c below other =
@@ -116,7 +117,9 @@ module _ (p base : ℕ) {f : Fraction} {nums₀ dens₀ nums₁ dens₁ : List �
 
   -- A rule that makes 0 in column p, makes the columns of the set as h does, and leaves all others: its row is made by 0 in column p
   -- and a loop over the rest.
-  module _ {g h : ℕ → Made ℕ ℚ} (set others : ℕ) (without : (c : ℕ) → holds others c ≡ (not (eqb c p) && holds set c)) (nought : value f ≡ zeroℚ) (solved : g p ≡ made zeroℚ) (turns : (c : ℕ) → c < 65 → c ≢ p → g c ≡ h c) (stands : (c : ℕ) → c < 64 → c ≢ p → holds set c ≡ false → g c ≡ made (column (rowAt nums₀ dens₀ base) c)) where
+  module _ {g h : ℕ → Made ℕ ℚ} (set others : ℕ) (without : (c : ℕ) → holds others c ≡ (not (eqb c p) && holds set c))
+      (nought : value f ≡ zeroℚ) (solved : g p ≡ made zeroℚ) (turns : (c : ℕ) → c < 65 → c ≢ p → g c ≡ h c)
+      (stands : (c : ℕ) → c < 64 → c ≢ p → holds set c ≡ false → g c ≡ made (column (rowAt nums₀ dens₀ base) c)) where
     alike : (c : ℕ) → c < 65 → Dec (c ≡ p) → Dec (c < 64) → g c ≡ reached others h (rowAt nums₁ dens₁ base) c
     alike c below (yes same) _ =
         let out : holds others c ≡ false = without c ∙ ap (λ b. not b && holds set c) (eq-eqb c p same) in
@@ -136,7 +139,9 @@ module _ (p base : ℕ) {f : Fraction} {nums₀ dens₀ nums₁ dens₁ : List �
             stands c term other out ∙ ap made (sym (stored-other c below other))
             ∙ sym (reached-out others h (rowAt nums₁ dens₁ base) c term (kept-in ∙ out))
 
-    pub row-apart : {m : ℕ} {step : Step} {nums dens : List ℤ} → RowMade (reached others h (rowAt nums₁ dens₁ base)) base m step nums₁ dens₁ nums dens → RowMade g base m step nums₀ dens₀ nums dens
+    pub row-apart : {m : ℕ} {step : Step} {nums dens : List ℤ}
+        → RowMade (reached others h (rowAt nums₁ dens₁ base)) base m step nums₁ dens₁ nums dens
+        → RowMade g base m step nums₀ dens₀ nums dens
     row-apart turn =
         record {
           ends = row-alike g (reached others h (rowAt nums₁ dens₁ base)) (λ c below. alike c below (ℕ-discrete c p) (decLt c 64)) ∙ turn .ends;

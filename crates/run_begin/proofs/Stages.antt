@@ -19,14 +19,13 @@ use Rattle.rules_run.specs.Close.{close}
 use Rattle.rules_run.specs.Run.{byNumber, ends, begin}
 use Rattle.run_table.specs.declared.Step.{Step}
 use Rattle.run_table.specs.declared.Step.the-variants.{Done, Refused as Stopped}
-use Rattle.run_table.specs.Work.{Work, tableOf}
+use Rattle.run_table.specs.Calls.{Lookups}
+use Rattle.run_table.specs.Work.{Work, tableOf, Resting}
 use Rattle.run_table.proofs.Columns.{kept-then}
 use Rattle.run_table.proofs.Turns.{finished-done, finished-refused}
 use Rattle.run_build.specs.Built.{TableBuilt}
-use Rattle.run_due_pair.specs.Found.{Lookups}
 use Rattle.run_due_pair.proofs.Woken.{all-awake}
 use Rattle.run_close.specs.declared.Closed.{Closed}
-use Rattle.run_close.specs.Ready.{Resting}
 use Rattle.run_close.specs.Contract.{Closes}
 use Rattle.run_progress.specs.declared.Ran.{Ran}
 use Rattle.run_progress.specs.declared.Ran.the-variants.{Ended}
@@ -81,13 +80,12 @@ module _ {bytes : List ℕ} {n : ℕ} {heads₀ inputs₀ heads inputs : List �
         let held = ready .held in
         let few = few-terms ready in
         let kept = rows .kept in
+        let lookups = noted (held .problem) (held .same) in
         record {
-          ready = record {
-            rows = record { few = few; nums-fit = omega (arith, kept .nums-length, ready .nums-fit); dens-fit = omega (arith, kept .dens-length, ready .dens-fit); sound = rows .sound done; size = size; sparse = rows .sparse done };
-            noted = record { heads-fit = heads-fit; inputs-fit = inputs-fit; below = decoded-inputs bytes (held .problem) (held .same) (ready .terms) (noted (held .problem) (held .same) .calls) };
-            linked = rows .linked done;
-          };
-          awake = record { watched = λ terms lookups. all-awake (tableOf n mid) lookups few (rows .pending done) (rows .opened done .inside) };
+          rows = record { few = few; nums-fit = omega (arith, kept .nums-length, ready .nums-fit); dens-fit = omega (arith, kept .dens-length, ready .dens-fit); sound = rows .sound done; size = size; sparse = rows .sparse done };
+          notes = record { heads-fit = heads-fit; inputs-fit = inputs-fit; below = decoded-inputs bytes (held .problem) (held .same) (ready .terms) (lookups .calls); terms = held .problem .terms; lookups = lookups };
+          linked = rows .linked done;
+          watched = λ terms lookups. all-awake (tableOf n mid) lookups few (rows .pending done) (rows .opened done .inside);
         }
 
     -- They are closed.

@@ -17,8 +17,8 @@ use Rattle.rules_run.specs.Row.{Table}
 use Rattle.rules_run.specs.Close.{isDue, due}
 use Rattle.laws_invariant.proofs.Due.{first-none}
 use Rattle.laws_invariant.proofs.Pivot.{last-or-before}
-use Rattle.run_table.specs.Sparse.{pendingOf, openOf}
-use Rattle.run_due_pair.specs.Found.{pairFor, leftFor, pairAmong, leftAmong, Shut, Waits, Passed, Looked, Watched}
+use Rattle.run_table.specs.Sparse.{pendingOf, openOf, Shut, Waits, Looked, Watched}
+use Rattle.run_due_pair.specs.Found.{pairFor, leftFor, pairAmong, leftAmong, RightPassed}
 use Rattle.run_due_pair.proofs.Search.{first-agrees, first-nowhere, pair-given, pair-none, among-searched, due-searched}
 use Rattle.run_due_pair.proofs.Twins.{twin-left, twin-right, due-calls}
 
@@ -102,7 +102,7 @@ module _ {waiting : List ℕ} {terms : List Term} {n : ℕ} {table : Table} {set
       by inside (no later) passed = idle-right asleep on inside (idle on (omega arith) (omega arith)) (λ k low. passed k low (omega arith))
 
   -- A right side with no pair due need not wait.
-  pub watched-passed : {waiting′ : List ℕ} (j : ℕ) → n ≤ 64 → Passed j waiting waiting′ → leftFor terms table j ≡ none → Watched waiting′ terms n table sets
+  pub watched-passed : {waiting′ : List ℕ} (j : ℕ) → n ≤ 64 → RightPassed j waiting waiting′ → leftFor terms table j ≡ none → Watched waiting′ terms n table sets
   watched-passed {waiting′} j few passed nothing =
       record { found = λ i k before below is left right. by i k before below is (ℕ-discrete k j) (watched .found i k before below is left right); others = watched .others }
     where

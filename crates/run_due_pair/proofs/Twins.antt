@@ -17,7 +17,7 @@ use Rattle.rules_problem.specs.Lookup.{Call, callOf, inputsOf, sameFunction, al
 use Rattle.rules_run.specs.Row.{Table, sameRow}
 use Rattle.rules_run.specs.Close.{sameRows, isDue}
 use Rattle.laws_invariant.proofs.Rows.{sameRow-equal}
-use Rattle.run_due_pair.specs.Found.{Twin, Shut}
+use Rattle.run_table.specs.Sparse.{Twin, Shut}
 
 -- Lookups of one function: both ways, and one after another.
 function-back : (f g : Option Call) → sameFunction f g ≡ true → sameFunction g f ≡ true

@@ -136,7 +136,7 @@ module _ {terms : List Term} {n : ℕ} {heads inputs : List ℕ} {nums dens nums
       still i j first below is i-open j-open = looked i j (watched .found i j first below is (was-open i i-open) (was-open j j-open))
 
       merged : Twin terms (tableAt n nums′ dens′) left right
-      merged = record { before = due .before; similar = T-true _ (due .similar); inputs = rows-kept _ _ stay _ _ (sameRows-equal (tableAt n nums dens) _ _ .1 (due .inputs)); own = merge-meets byNumber _ _ left right goes-on }
+      merged = record { order = due .before; similar = T-true _ (due .similar); inputs = rows-kept _ _ stay _ _ (sameRows-equal (tableAt n nums dens) _ _ .1 (due .inputs)); own = merge-meets byNumber _ _ left right goes-on }
 
       by : (j : ℕ) → j < n → (eqb j right ≡ true) ⊎ (holds (openOf sets₁) j ≡ false) → Shut terms (tableAt n nums′ dens′) j
       by j below (inl same) = inr (left, subst (Twin terms (tableAt n nums′ dens′) left) (sym (eqb-same j right same)) merged)

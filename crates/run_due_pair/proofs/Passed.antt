@@ -63,7 +63,7 @@ module _ {waiting : List ℕ} {terms : List Term} {n : ℕ} {table : Table} {set
       -- a pair with a shut side is not due: a twin would make one due that comes first
       left-shut : (i : ℕ) → ((k : ℕ) → k < i → pairFor terms table j k ≡ none) → isDue terms table i j ≡ true → Shut terms table i → ⊥
       left-shut i none-yet is (inl no-lookup) = due-calls terms table i j is .0 no-lookup
-      left-shut i none-yet is (inr (k, twin)) = pair-none terms table k j (twin-left terms table j twin is) (none-yet k (twin .before))
+      left-shut i none-yet is (inr (k, twin)) = pair-none terms table k j (twin-left terms table j twin is) (none-yet k (twin .order))
 
       right-shut : (i : ℕ) → i < j → isDue terms table i j ≡ true → Shut terms table j → ⊥
       right-shut i before is (inl no-lookup) = due-calls terms table i j is .1 no-lookup

@@ -73,7 +73,7 @@ pub record Linked (n : ℕ) (heads inputs sets : List ℕ) : Type 0 where
 -- OPEN. Twins are lookups i < j that closing has merged: of one function, inputs with equal rows place by place, and equal rows of their own.
 -- Rows that are equal stay so, hence a pair that falls due with j falls due with i too, and that pair comes first: j is looked at no more.
 pub record Twin (terms : List Term) (table : Table) (i j : ℕ) : Type 0 where
-  pub before : i < j
+  pub order : i < j
   pub similar : alike (kindAt terms i) (kindAt terms j) ≡ true
   pub inputs : sameRows table (inputsOf (kindAt terms i)) (inputsOf (kindAt terms j)) ≡ true
   pub own : sameRow table i j ≡ true

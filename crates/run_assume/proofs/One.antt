@@ -23,7 +23,7 @@ use Rattle.run_progress.specs.declared.Ran.the-variants.{Ended}
 use Rattle.run_progress.specs.Ran.{ran, AtMost, WhileGoing, Places}
 use Rattle.run_progress.proofs.Going.{open-going}
 use Rattle.run_assume.specs.Assumed.{assumed}
-use Rattle.run_assume.specs.Contract.{Assumable, Assumes}
+use Rattle.run_assume.specs.Contract.{EACH, Assumable, Assumes}
 
 module _ {n left right solved : ℕ} {heads inputs : List ℕ} {old mid : Work} {answer : Merged} (ready : Assumable n left right solved heads inputs old) (merges : Merges n left right answer old mid) where
   after : (place : ℕ) (to : Merged) → answer ≡ to → (terms : List Term) → assumed terms place left right (stateOf n old solved) ≡ because (ends place) (merged to solved (tableOf n mid) >>= rule.close byNumber terms)
@@ -40,7 +40,7 @@ module _ {n left right solved : ℕ} {heads inputs : List ℕ} {old mid : Work} 
         (merges .answers solved ∙ ap (λ a. merged a solved (tableOf n mid)) is ∙ goes-on) (resting .watched terms lookups)
 
     -- Closing gives what the assumption comes to.
-    closes-on : {place : ℕ} {c : Closed} {r : Ran} {new : Work} → Closes n count heads inputs c mid new → Places place c (solved + 66) r → Assumes n place left right solved heads inputs r old new
+    closes-on : {place : ℕ} {c : Closed} {r : Ran} {new : Work} → Closes n count heads inputs c mid new → Places place c (solved + EACH) r → Assumes n place left right solved heads inputs r old new
     unfolding _>>=_
     closes-on {place} {c} {r} {new} closes places =
         record {
@@ -70,11 +70,11 @@ module _ {n left right solved : ℕ} {heads inputs : List ℕ} {old mid : Work} 
   unfolding Unstopped
   assumes-more is = record { resting = rests Solved is (solved + 1) one-more (hints-of Solved is); few-solved = omega (arith, ready .few-solved) }
 
-  pub same-closes : answer ≡ Nothing → {place : ℕ} {c : Closed} {r : Ran} {new : Work} → Closes n solved heads inputs c mid new → Places place c (solved + 66) r → Assumes n place left right solved heads inputs r old new
+  pub same-closes : answer ≡ Nothing → {place : ℕ} {c : Closed} {r : Ran} {new : Work} → Closes n solved heads inputs c mid new → Places place c (solved + EACH) r → Assumes n place left right solved heads inputs r old new
   unfolding merged Unstopped
   same-closes is = closes-on Nothing is solved refl (hints-of Nothing is)
 
-  pub more-closes : answer ≡ Solved → {place : ℕ} {c : Closed} {r : Ran} {new : Work} → Closes n (solved + 1) heads inputs c mid new → Places place c (solved + 66) r → Assumes n place left right solved heads inputs r old new
+  pub more-closes : answer ≡ Solved → {place : ℕ} {c : Closed} {r : Ran} {new : Work} → Closes n (solved + 1) heads inputs c mid new → Places place c (solved + EACH) r → Assumes n place left right solved heads inputs r old new
   unfolding Unstopped
   more-closes is = closes-on Solved is (solved + 1) one-more (hints-of Solved is)
 

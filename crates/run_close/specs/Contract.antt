@@ -1,5 +1,5 @@
 -- What closing asks for, and what it ensures.
--- Main definitions: `Closable`, `Closes`. Assume nothing.
+-- Main definitions: `MOST`, `Closable`, `Closes`. Assume nothing.
 use mathlib.Core.Path.{_≡_}
 use mathlib.Core.List.{List}
 use Prim.Native.Nat.{ℕ, _+_, _*_, _≤_}
@@ -20,13 +20,17 @@ use Rattle.run_close.specs.Outcome.{closed, Counted, WhileOpen}
 abbrev pub stateOf : (n : ℕ) → Work → (solved : ℕ) → State
 stateOf n w solved = record { table = tableOf n w; solved = solved }
 
--- The sets serve, and the count is far from wrapping.
+-- A count of solved unknowns that closing takes: far above what a run comes to, and far from wrapping.
+abbrev pub MOST : ℕ
+MOST = 8192
+
+-- The sets serve, and the count is no greater.
 pub record Closable (n solved : ℕ) (heads inputs : List ℕ) (w : Work) : Type 0 where
   pub resting : Resting n heads inputs w
-  pub few-solved : solved ≤ 8192
+  pub few-solved : solved ≤ MOST
 
--- The answer and the table are the rule's, of whatever terms the notes are. Only the rows of the n terms have changed, and they are sound; at most
--- one unknown more is solved in each of n + 1 turns; and where closing goes on, the sets serve again.
+-- The answer and the table are the rule's, of whatever terms the notes are. Only the rows of the n terms have changed, and they are
+-- sound; at most one unknown more is solved in each of n + 1 turns; and where closing goes on, the sets serve again.
 pub record Closes (n solved : ℕ) (heads inputs : List ℕ) (r : Closed) (old new : Work) : Type 0 where
   pub answers : (terms : List Term) → Lookups terms n heads inputs
       → close byNumber terms (stateOf n old solved) ≡ closed r (tableOf n new)

@@ -1,5 +1,6 @@
 -- What the functions of the search for the pair due ask for, and what they ensure.
--- Main definitions: `Alike`, `InputsComparable`, `PairComparable`, `TellsDue`, `OpenWaiting`, `LeftsSearchable`, `FindsLeft`, `Searchable`, `FindsDue`. Assume nothing.
+-- Main definitions: `Alike`, `InputsComparable`, `PairComparable`, `TellsDue`, `OpenWaiting`, `LeftsSearchable`, `FindsLeft`;
+-- `Searchable`, `FindsDue`. Assume nothing.
 use mathlib.Core.Path.{_≡_}
 use mathlib.Core.Bool.{Bool, _&&_}
 use mathlib.Core.List.{List}
@@ -19,7 +20,8 @@ use Rattle.run_due_pair.specs.Found.{leftAmong, pairOf, Below}
 
 -- The heads of terms i and j tell whether they are lookups of one function, whatever kinds the heads are of.
 pub record Alike (i j : ℕ) (heads : List ℕ) (r : Bool) : Type 0 where
-  pub tells : (k l : Kind) → getD heads i 0 ≡ headOf k → getD heads j 0 ≡ headOf l → symbolOf k < 256 → symbolOf l < 256 → r ≡ alike k l
+  pub tells : (k l : Kind) → getD heads i 0 ≡ headOf k → getD heads j 0 ≡ headOf l → symbolOf k < 256 → symbolOf l < 256
+      → r ≡ alike k l
 
 -- two of n terms whose inputs can be compared
 pub record InputsComparable (n i j : ℕ) (inputs : List ℕ) (w : Work) : Type 0 where

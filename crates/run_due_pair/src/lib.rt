@@ -1,11 +1,14 @@
 // The next pair of lookups that closing merges: of all pairs due, the one of the smallest right side, and of those the smallest left side.
 //
-// Not all pairs are looked at. A pair that is not due falls due only when an input row of one of its sides changes, since equal rows stay
-// equal in every merge. So closing keeps, for each lookup j, the set of those before it that wait to be compared with j, and the set of the
-// right sides j that any waits for (`waiting`): a pair is compared once, and again only after an input row of it has changed.
-// And a lookup that closing has merged with one before it, its twin, is never looked at again, it is no longer open: the two have equal rows
-// and inputs from then on, so whatever is due with the later one is due with the earlier one, and that pair comes first.
-// What the sets hold is laid down where they are declared (`Serving` in the specs of `run_table`).
+// Not all pairs are looked at. A pair that is not due can fall due only when an input row of one of its sides changes, since equal rows
+// stay equal in every merge: a lookup with such an input is pending. Closing turns what is pending into pairs that wait (`waiting`: for each
+// lookup those before it to compare it with), and a pair that was compared waits no more. So each pair is compared once, and again only
+// after an input row of it has changed.
+//
+// And a lookup that closing has merged with one before it, its twin, is no longer open, and not looked at again: from then on both have
+// equal rows, and so have their inputs. Whatever is due with the later one is then due with the earlier one, and that pair comes first.
+//
+// What each set has to hold for that stands where the sets are declared: `Serving`, in the specs of `run_table`.
 use rules_problem::TERMS;
 use run_equal_rows::same_row;
 use run_table::OPEN;

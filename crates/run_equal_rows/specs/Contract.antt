@@ -1,10 +1,10 @@
 -- What the functions that compare rows ask for, and the tests that they answer.
--- Main definitions: `BothGood`, `RowsStand`, `RowsWithin`, `TermsWithin`, `Comparable`, `sameColumn`, `sameAt`. Assume nothing.
+-- Main definitions: `BothGood`, `RowsStand`, `RowsWithin`, `TermsWithin`, `Comparable`, `numAt`, `sameColumn`, `sameAt`. Assume nothing.
 use mathlib.Core.Bool.{Bool}
 use mathlib.Core.List.{List}
 use Prim.Native.Nat.{ℕ, _+_, _*_, _<_, _≤_}
-use lib.IntN.{ℤ}
-use lib.ListN.{length}
+use lib.IntN.{ℤ, pos}
+use lib.ListN.{length, getD}
 use Rattle.fraction.specs.declared.Fraction.{Fraction}
 use Rattle.fraction.specs.Exact.{eqℚ}
 use Rattle.fraction_reduce.specs.Values.{Good}
@@ -49,6 +49,10 @@ pub record Comparable (n t u : ℕ) (w : Work) : Type 0 where
   pub rows : Rows n w
   pub left : t < n
   pub right : u < n
+
+-- the numerator in column c of row t
+abbrev pub numAt : (nums : List ℤ) → (t c : ℕ) → ℤ
+numAt nums t c = getD nums (COLUMNS * t + c) (pos 0)
 
 -- whether the rows at `left` and `right` hold the same number in column c,
 abbrev pub sameColumn : (nums dens : List ℤ) → (left right c : ℕ) → Bool

@@ -6,13 +6,12 @@ use run_table::get;
 ghost use mathlib.Core.Path.{_≡_};
 ghost use Prim.Native.Nat.{_+_, _*_, _<_, _≤_};
 ghost use mathlib.Core.Bool.{false};
-ghost use lib.ListN.{length, getD};
-ghost use lib.IntN.{pos};
+ghost use lib.ListN.{length};
 ghost use Rattle.fraction.specs.Exact.{value, eqℚ};
 ghost use Rattle.rules_run.specs.Row.{TERMS, COLUMNS, PLACES, sameRow};
 ghost use Rattle.run_table.specs.Held.{tableAt};
 ghost use Rattle.run_table.specs.Work.{lent, entered, tableOf};
-ghost use Rattle.run_equal_rows.specs.Contract.{BothGood, RowsStand, RowsWithin, TermsWithin, Comparable, sameColumn, sameAt};
+ghost use Rattle.run_equal_rows.specs.Contract.{BothGood, RowsStand, RowsWithin, TermsWithin, Comparable, numAt, sameColumn, sameAt};
 
 // In lowest terms, equal fractions have the same two numbers.
 fn same_fraction(a: Fraction, b: Fraction) -> bool
@@ -58,7 +57,7 @@ fn same_places(nums: &[i32], dens: &[i32], left: usize, right: usize, set: u64) 
 // Whether the rows of t and u hold different numerators in column c: one look instead of a walk.
 fn differ_at(nums: &[i32], t: usize, u: usize, c: usize) -> bool
     requires { ⌜ (t < TERMS) × (u < TERMS) × (c < COLUMNS) × (PLACES ≤ length (now nums)) ⌝ }
-    ensures { λ r. ⌜ (getD (now (nums .entry)) (COLUMNS * t + c) (pos 0) ≡ getD (now (nums .entry)) (COLUMNS * u + c) (pos 0) → r ≡ false) ⌝ }
+    ensures { λ r. ⌜ (numAt (now (nums .entry)) t c ≡ numAt (now (nums .entry)) u c → r ≡ false) ⌝ }
 {
     nums[COLUMNS * t + c] != nums[COLUMNS * u + c]
 }

@@ -1,8 +1,8 @@
 -- The sets of a run: which there are, and what each has to hold. `Serving` (in `Work`) is the invariant that takes it all together.
 -- A set is a hint, of numbers below 64 (`holds`): one that holds more than it must costs time only, one that lacks a number makes closing
 -- or a merge pass over what matters. So whoever writes a set may add to it, and has to show what it says below before it takes away.
--- Main definitions: `SETS`, `columnsOf`, `usersOf`, `earlierOf`, `pendingOf`, `openOf`; `Within`, `Sparse`; `Linked`; `Twin`, `Shut`, `Waits`,
--- `Watched`; `Stirred`. Assume nothing.
+-- Main definitions: `SETS`, `columnsOf`, `usersOf`, `earlierOf`, `pendingOf`, `openOf`; `Within`, `Sparse`; `Linked`; `Twin`, `Shut`;
+-- `Waits`, `Watched`; `Stirred`. Assume nothing.
 use mathlib.Core.Path.{_≡_}
 use mathlib.Core.Logic.{_⊎_, _≢_}
 use mathlib.Core.Bool.{true, false}
@@ -55,7 +55,7 @@ pendingOf sets = getD sets PENDING 0
 unfoldable pub openOf : (sets : List ℕ) → ℕ
 openOf sets = getD sets OPEN 0
 
--- COLUMNS. In the row whose column 0 stands at `base`, the columns of terms that are not in the set hold 0.
+-- What set t holds, the columns. In the row whose column 0 stands at `base`, the columns of terms that are not in the set hold 0.
 pub record Within (set base : ℕ) (nums : List ℤ) : Type 0 where
   pub zero : (c : ℕ) → c < TERMS → holds set c ≡ false → getD nums (base + c) (pos 0) ≡ pos 0
 
@@ -63,15 +63,17 @@ pub record Within (set base : ℕ) (nums : List ℤ) : Type 0 where
 pub record Sparse (n : ℕ) (nums : List ℤ) (sets : List ℕ) : Type 0 where
   pub within : (t : ℕ) → t < n → Within (columnsOf sets t) (COLUMNS * t) nums
 
--- LINKS. Each lookup j below n is a user of each of its inputs, and each lookup i before it with its head is an earlier one.
+-- What users and earlier lookups hold, the links. Each lookup j below n is a user of each of its inputs, and each lookup before it with
+-- its head is an earlier one.
 pub record Linked (n : ℕ) (heads inputs sets : List ℕ) : Type 0 where
   pub users : (j k : ℕ) → j < n → k < 3 → (getD heads j 0 ≡ 0 → ⊥)
       → holds (usersOf sets (getD inputs (3 * j + k) 0)) j ≡ true
   pub earlier : (i j : ℕ) → i < j → j < n → (getD heads j 0 ≡ 0 → ⊥) → getD heads i 0 ≡ getD heads j 0
       → holds (earlierOf sets j) i ≡ true
 
--- OPEN. Twins are lookups i < j that closing has merged: of one function, inputs with equal rows place by place, and equal rows of their own.
--- Rows that are equal stay so, hence a pair that falls due with j falls due with i too, and that pair comes first: j is looked at no more.
+-- What the open set holds. Twins are lookups i < j that closing has merged: of one function, inputs with equal rows place by place, and
+-- equal rows of their own. Equal rows stay equal, so a pair that falls due with j falls due with i too, and that pair comes first: j need
+-- not be looked at any more.
 pub record Twin (terms : List Term) (table : Table) (i j : ℕ) : Type 0 where
   pub order : i < j
   pub similar : alike (kindAt terms i) (kindAt terms j) ≡ true
@@ -82,8 +84,8 @@ pub record Twin (terms : List Term) (table : Table) (i j : ℕ) : Type 0 where
 abbrev pub Shut : List Term → Table → (j : ℕ) → Type 0
 Shut terms table j = (callOf (kindAt terms j) ≡ none) ⊎ ((i : ℕ) × Twin terms table i j)
 
--- PENDING. While closing runs it notes pair by pair what it has yet to compare, in sets of its own: i waits for j where i is in set j of
--- `waiting` and j is in the last set, which tells for which lookups any waits. Between closings nothing waits.
+-- What the pending set holds. While closing runs it notes pair by pair what it has yet to compare, in sets of its own: i waits for j where i
+-- is in set j of `waiting` and j is in the last set, which tells for which lookups any waits. Between closings nothing waits.
 abbrev pub RIGHTS : ℕ
 RIGHTS = 64
 

@@ -1,7 +1,7 @@
 -- One assumption: its sides merged, then closed.
 -- Main results: `assumes-same`, `assumes-more`, `same-closes`, `more-closes`, `assumes-contradicts`, `assumes-refuses`. Assume nothing.
 use mathlib.Core.Path.{_≡_, refl, ap, _∙_, subst}
-use mathlib.Core.List.{List, []}
+use mathlib.Core.List.{List}
 use Prim.Native.Nat.{ℕ, suc, _+_}
 use native.Mathlib.Omega.{arith}
 use Rattle.answer.specs.declared.Answer.the-variants.{Contradictory, Refused}

@@ -21,7 +21,7 @@ use Rattle.rules_run.specs.Run.{byNumber}
 use Rattle.laws_invariant.proofs.Due.{due-some}
 use Rattle.run_table.specs.Calls.{Lookups}
 use Rattle.run_table.specs.Loop.{Kept}
-use Rattle.run_table.specs.Sparse.{PENDING, OPEN, RIGHTS, pendingOf, openOf, Looked, Watched}
+use Rattle.run_table.specs.Sparse.{RIGHTS, pendingOf, openOf, Looked}
 use Rattle.run_table.specs.Work.{Work, withSets, tableOf, Serving, Resting}
 use Rattle.run_table.proofs.Columns.{kept-itself, kept-then}
 use Rattle.run_due_pair.specs.Found.{Below, pairOf}
@@ -34,7 +34,6 @@ use Rattle.run_merge.specs.Outcome.{merged, Unstopped}
 use Rattle.run_merge.specs.Contract.{Mergeable, Hints, Merges}
 use Rattle.run_merge.specs.declared.Merged.{Merged}
 use Rattle.run_merge.specs.declared.Merged.the-variants.{Nothing, Solved, Contradiction as Clash, Refused as Outside}
-use Rattle.run_close.specs.declared.Closed.{Closed}
 use Rattle.run_close.specs.declared.Closed.the-variants.{Going, Contradiction, Refused}
 use Rattle.run_close.specs.Outcome.{closed, Counted, WhileOpen}
 use Rattle.run_close.specs.Contract.{stateOf, Closes}

@@ -16,7 +16,7 @@ use Rattle.set_members.specs.Sets.{holds}
 use Rattle.rules_problem.specs.declared.Term.{Term}
 use Rattle.rules_problem.specs.Lookup.{alike, kindAt}
 use Rattle.rules_run.specs.Row.{Table, COLUMNS, sameTo, sameRow}
-use Rattle.rules_run.specs.Close.{isDue, due}
+use Rattle.rules_run.specs.Close.{due}
 use Rattle.laws_invariant.proofs.Due.{none-due}
 use Rattle.run_table.specs.Held.{rowAt, tableAt}
 use Rattle.run_table.specs.Sparse.{usersOf, pendingOf, openOf, Linked, Stirred, Shut, Looked, Finds, Watched}

@@ -14,10 +14,9 @@ use mir.Facts.{toZ-ofZ}
 use Rattle.fraction.specs.declared.Fraction.{Fraction}
 use Rattle.fraction.specs.Exact.{value, eqℚ}
 use Rattle.fraction.proofs.Equality.{eqℚ-yes, eqℚ-same}
-use Rattle.fraction_reduce.specs.Values.{Good}
 use Rattle.fraction_reduce.proofs.Lowest.{value-one-to-one}
 use Rattle.fraction_reduce.proofs.Operations.{good-num, good-den}
-use Rattle.rules_run.specs.Row.{Row, Table, TERMS, COLUMNS, column, rowOf, cell, sameTo, sameRow}
+use Rattle.rules_run.specs.Row.{Row, Table, COLUMNS, column, rowOf, cell, sameTo, sameRow}
 use Rattle.laws_invariant.proofs.Rows.{sameRow-equal}
 use Rattle.set_members.specs.Sets.{holds}
 use Rattle.run_table.specs.Held.{heldAt, rowAt, tableAt, SoundTo}

@@ -11,7 +11,7 @@ use lib.IntN.{ℤ, pos}
 use Rattle.fraction.specs.Exact.{ℚ}
 use Rattle.fraction.specs.Made.{Made, made, stopped}
 use Rattle.fraction_reduce.proofs.Lowest.{value-one-to-one}
-use Rattle.rules_run.specs.Row.{TERMS, COLUMNS, column, rowOf}
+use Rattle.rules_run.specs.Row.{column, rowOf}
 use Rattle.run_table.specs.declared.Step.{Step}
 use Rattle.run_table.specs.declared.Step.the-variants.{Done, Refused}
 use Rattle.run_table.specs.Held.{heldAt, rowAt, tableAt, SoundTo, finished}

@@ -2,12 +2,12 @@
 -- Main results: `tab-listed`, `making-starts`, `making-goes-on`, `making-ends`, `making-stops`. Assume nothing.
 use mathlib.Core.Path.{_≡_, refl, sym, ap, _∙_, subst}
 use mathlib.Core.Logic.{_⊎_, inl, inr, _≢_}
-use mathlib.Core.List.{List, [], _∷_}
-use Prim.Native.Nat.{ℕ, zero, suc, _+_, _*_, _≤_, _<_}
+use mathlib.Core.List.{List}
+use Prim.Native.Nat.{ℕ, zero, suc, _+_, _≤_, _<_}
 use native.Mathlib.Nat.{add-zero, add-suc, suc-add, zero-add}
-use native.Mathlib.Decide.{ℕ-discrete, decLt}
+use native.Mathlib.Decide.{ℕ-discrete}
 use native.Mathlib.Omega.{arith}
-use lib.ListN.{length, getD, set, length-set}
+use lib.ListN.{length, set, length-set}
 use lib.Seq.{getD-set-same, getD-set-other}
 use lib.IntN.{ℤ, pos}
 use Rattle.fraction.specs.declared.Fraction.{Fraction}
@@ -16,10 +16,9 @@ use Rattle.fraction.specs.Made.{Made, made, stopped, _>>=_, tab}
 use Rattle.fraction.proofs.Making.{tab-stopped}
 use Rattle.fraction_reduce.specs.Values.{Good}
 use Rattle.rules_run.specs.Row.{COLUMNS, row}
-use Rattle.run_table.specs.declared.Step.{Step}
 use Rattle.run_table.specs.declared.Step.the-variants.{Done, Refused}
 use Rattle.run_table.specs.Held.{heldAt, listed, rowAt, SoundTo, finished}
-use Rattle.run_table.specs.Loop.{Kept, Making, RowMade}
+use Rattle.run_table.specs.Loop.{Making, RowMade}
 
 -- A list each of whose members is made is made of them.
 pub tab-listed {ℓ} : {R : Type 0} {A : Type ℓ} (g : ℕ → Made R A) (f : ℕ → A) (count from : ℕ) → ((i : ℕ) → i < count → g (from + i) ≡ made (f (from + i))) → tab count from g ≡ made (listed count from f)

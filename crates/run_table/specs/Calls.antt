@@ -2,12 +2,12 @@
 -- Main definitions: `headOf`, `inputOf`, `Calls`, `Lookups`, `InputsBelow`, `Notes`, `NotesKept`. Assume nothing.
 use mathlib.Core.Path.{_≡_}
 use mathlib.Core.List.{List}
-use mathlib.Core.Option.{Option, some, none}
+use mathlib.Core.Option.{some, none}
 use Prim.Native.Nat.{ℕ, _+_, _*_, _≤_, _<_}
 use lib.ListN.{length, getD}
 use Rattle.rules_problem.specs.declared.Kind.{Kind}
 use Rattle.rules_problem.specs.declared.Term.{Term}
-use Rattle.rules_problem.specs.Lookup.{Call, callOf, inputsOf, kindAt}
+use Rattle.rules_problem.specs.Lookup.{callOf, inputsOf, kindAt}
 use Rattle.rules_run.specs.Row.{TERMS}
 
 -- 256 for each input, plus the symbol; 0 for a term that is no lookup. Lookups of one function have one head.

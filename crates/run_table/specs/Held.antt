@@ -1,6 +1,5 @@
 -- The table as the two lent lists hold it.
 -- Main definitions: `heldAt`, `rowAt`, `tableAt`, `SoundTo`, `finished`. Assumes nothing.
-use mathlib.Core.Path.{_≡_}
 use mathlib.Core.List.{List, [], _∷_}
 use Prim.Native.Nat.{ℕ, zero, suc, _+_, _*_, _<_}
 use lib.ListN.{getD}

@@ -2,7 +2,7 @@
 use fraction::Fraction;
 use rules_problem::TERMS;
 ghost use mathlib.Core.Path.{_≡_};
-ghost use Prim.Native.Nat.{_+_, _*_, _<_, _≤_};
+ghost use Prim.Native.Nat.{_+_, _*_, _<_};
 ghost use lib.ListN.{length, set};
 ghost use Rattle.run_table.specs.Held.{heldAt};
 

@@ -1,12 +1,11 @@
 -- `run_close::close` meets its contract. Assumes nothing.
 use borrow.Author.Needs.{needs}
-use mathlib.Core.Path.{_≡_, refl, sym, _∙_}
-use mathlib.Core.List.{List}
-use Prim.Native.Nat.{ℕ, _-_}
+use mathlib.Core.Path.{_≡_, sym}
+use Prim.Native.Nat.{_-_}
 use native.Mathlib.Omega.{arith}
-use lib.ListN.{length, length-set}
+use lib.ListN.{length}
 use Rattle.run_table.specs.Sparse.{pendingOf, openOf}
-use Rattle.run_table.specs.Work.{Work, lent}
+use Rattle.run_table.specs.Work.{lent}
 use Rattle.run_merge.specs.Contract.{leftBy}
 use Rattle.run_due_pair.specs.Contract.{waitingBy}
 use Rattle.run_close.proofs.Turns.{Closing, Turned, closing-idle, closing-starts, closing-ends, closing-searches, closing-over, pair-below, closing-merges, closing-merged}

@@ -1,6 +1,5 @@
 -- `run_due_pair::left_due` meets its contract. Assumes nothing.
 use borrow.Author.Needs.{needs}
-use native.Mathlib.Omega.{arith}
 use Prim.Native.Nat.{_-_}
 use Rattle.run_due_pair.proofs.Steps.{Choosing, choosing-starts, choosing-found, choosing-less, choosing-on, choosing-over}
 use Rattle.run_due_pair.proofs.left_due.Statement.{statement}

@@ -10,7 +10,7 @@ use Rattle.rules_problem.specs.Bits.{field}
 use Rattle.rules_problem.specs.Problem.{Problem, decoded}
 use Rattle.rules_run.specs.Row.{TERMS, COLUMNS}
 use Rattle.rules_run.specs.Run.{byNumber, assume}
-use Rattle.run_table.specs.Calls.{Lookups}
+use Rattle.run_table.specs.Notes.{Lookups}
 use Rattle.run_table.specs.Held.{SoundTo}
 use Rattle.run_table.specs.Loop.{Kept}
 use Rattle.run_table.specs.Sparse.{Sparse}

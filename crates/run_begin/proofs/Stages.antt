@@ -19,7 +19,7 @@ use Rattle.rules_run.specs.Close.{close}
 use Rattle.rules_run.specs.Run.{byNumber, ends, begin}
 use Rattle.run_table.specs.declared.Step.{Step}
 use Rattle.run_table.specs.declared.Step.the-variants.{Done, Refused as Stopped}
-use Rattle.run_table.specs.Calls.{Lookups}
+use Rattle.run_table.specs.Notes.{Lookups}
 use Rattle.run_table.specs.Work.{Work, tableOf, Resting}
 use Rattle.run_table.proofs.Columns.{kept-then}
 use Rattle.run_table.proofs.Turns.{finished-done, finished-refused}

@@ -21,7 +21,7 @@ use Rattle.run_table.specs.declared.Step.{Step}
 use Rattle.run_table.specs.declared.Step.the-variants.{Done, Refused}
 use Rattle.run_table.specs.Held.{listed, rowAt, tableAt, SoundTo, finished}
 use Rattle.run_table.specs.Loop.{Kept}
-use Rattle.run_table.specs.Calls.{Calls, NotesKept}
+use Rattle.run_table.specs.Notes.{LookupsNoted, NotesKept}
 use Rattle.run_table.specs.Sparse.{Sparse, Linked, pendingOf}
 use Rattle.run_table.proofs.Columns.{table-length, kept-itself, kept-within, kept-then}
 use Rattle.run_table.proofs.Turns.{finished-done, finished-refused, refused-not-done}
@@ -51,7 +51,7 @@ pub record Rising (terms : List Term) (t : ℕ) (nums₀ dens₀ nums dens : Lis
   pub kept : Kept 0 (65 * t) nums₀ dens₀ nums dens
   pub notes : NotesKept t heads₀ inputs₀ heads inputs
   pub sound : SoundTo (65 * t) nums dens
-  pub calls : Calls terms t heads inputs
+  pub calls : LookupsNoted terms t heads inputs
 
 module _ (terms : List Term) (nums₀ dens₀ : List ℤ) (heads₀ inputs₀ : List ℕ) where
   pub rising-starts : Rising terms 0 nums₀ dens₀ nums₀ dens₀ heads₀ inputs₀ heads₀ inputs₀
@@ -78,7 +78,7 @@ module _ (terms : List Term) (nums₀ dens₀ : List ℤ) (heads₀ inputs₀ : 
           rising .remains ∙ built-next terms t (tableAt t nums dens) below (table-length t nums dens) ∙ ap (λ m. m >>= λ r. built (drop (t + 1) terms) (tableAt t nums dens ++ (r ∷ []))) e
 
       -- One row more is built.
-      pub rising-goes-on : {heads′ inputs′ : List ℕ} → step ≡ Done → NotesKept (t + 1) heads₀ inputs₀ heads′ inputs′ → Calls terms (t + 1) heads′ inputs′ → Rising terms (t + 1) nums₀ dens₀ nums′ dens′ heads₀ inputs₀ heads′ inputs′
+      pub rising-goes-on : {heads′ inputs′ : List ℕ} → step ≡ Done → NotesKept (t + 1) heads₀ inputs₀ heads′ inputs′ → LookupsNoted terms (t + 1) heads′ inputs′ → Rising terms (t + 1) nums₀ dens₀ nums′ dens′ heads₀ inputs₀ heads′ inputs′
       unfolding _>>=_
       rising-goes-on done notes calls =
           record {

@@ -12,7 +12,7 @@ use Rattle.run_table.specs.declared.Step.{Step}
 use Rattle.run_table.specs.declared.Step.the-variants.{Done}
 use Rattle.run_table.specs.Held.{tableAt, SoundTo, finished}
 use Rattle.run_table.specs.Loop.{Kept}
-use Rattle.run_table.specs.Calls.{Calls, NotesKept}
+use Rattle.run_table.specs.Notes.{LookupsNoted, NotesKept}
 use Rattle.run_table.specs.Sparse.{Sparse, Linked, pendingOf}
 use Rattle.run_build.specs.Links.{Opened}
 
@@ -24,7 +24,7 @@ pub record TableBuilt (terms : List Term) (n : ℕ) (step : Step) (nums₀ dens�
   pub kept : Kept 0 (65 * n) nums₀ dens₀ nums dens
   pub notes : NotesKept n heads₀ inputs₀ heads inputs
   pub sound : step ≡ Done → SoundTo (65 * n) nums dens
-  pub calls : step ≡ Done → Calls terms n heads inputs
+  pub calls : step ≡ Done → LookupsNoted terms n heads inputs
   pub sparse : step ≡ Done → Sparse n nums sets
   pub linked : step ≡ Done → Linked n heads inputs sets
   pub pending : step ≡ Done → (j : ℕ) → j < 64 → holds (pendingOf sets) j ≡ true

@@ -19,7 +19,7 @@ use Rattle.rules_run.specs.Merge.{State, Stop, merge}
 use Rattle.rules_run.specs.Close.{due, closeFor, close}
 use Rattle.rules_run.specs.Run.{byNumber}
 use Rattle.laws_invariant.proofs.Due.{due-some}
-use Rattle.run_table.specs.Calls.{Lookups}
+use Rattle.run_table.specs.Notes.{Lookups}
 use Rattle.run_table.specs.Loop.{Kept}
 use Rattle.run_table.specs.Sparse.{RIGHTS, pendingOf, openOf, Looked}
 use Rattle.run_table.specs.Work.{Work, withSets, tableOf, Serving, Resting}

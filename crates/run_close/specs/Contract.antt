@@ -9,7 +9,7 @@ use Rattle.rules_run.specs.Row.{COLUMNS}
 use Rattle.rules_run.specs.Merge.{State}
 use Rattle.rules_run.specs.Close.{close}
 use Rattle.rules_run.specs.Run.{byNumber}
-use Rattle.run_table.specs.Calls.{Lookups}
+use Rattle.run_table.specs.Notes.{Lookups}
 use Rattle.run_table.specs.Held.{SoundTo}
 use Rattle.run_table.specs.Loop.{Kept}
 use Rattle.run_table.specs.Work.{Work, tableOf, Resting}

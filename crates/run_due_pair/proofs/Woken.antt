@@ -21,7 +21,7 @@ use Rattle.laws_invariant.proofs.Due.{none-due}
 use Rattle.run_table.specs.Held.{rowAt, tableAt}
 use Rattle.run_table.specs.Sparse.{usersOf, pendingOf, openOf, Linked, Stirred, Shut, Looked, Finds, Watched}
 use Rattle.run_table.proofs.Linked.{linked-same}
-use Rattle.run_table.specs.Calls.{Lookups, InputsBelow}
+use Rattle.run_table.specs.Notes.{Lookups, InputsBelow}
 use Rattle.run_equal_rows.proofs.Equal.{same-rows}
 use Rattle.run_due_pair.specs.Found.{sameInput, sameInputs}
 use Rattle.run_due_pair.proofs.Heads.{no-call, due-alike, alike-due, due-heads}

@@ -10,7 +10,7 @@ use Rattle.rules_problem.specs.Problem.{Problem, decoded}
 use Rattle.rules_run.specs.Row.{Table}
 use Rattle.rules_run.specs.Merge.{State}
 use Rattle.rules_run.specs.Run.{ends}
-use Rattle.run_table.specs.Calls.{Lookups}
+use Rattle.run_table.specs.Notes.{Lookups}
 use Rattle.run_table.specs.Work.{Work, Resting}
 use Rattle.run_close.specs.declared.Closed.{Closed}
 use Rattle.run_close.specs.Outcome.{closed}

@@ -10,7 +10,7 @@ use lib.Seq.{ext-getD}
 use denote.Ref.{now}
 use Rattle.unique.specs.Twice.{Twice}
 use Rattle.rules_problem.specs.declared.Term.{Term}
-use Rattle.run_table.specs.Calls.{Calls, NotesKept}
+use Rattle.run_table.specs.Notes.{LookupsNoted, NotesKept}
 use Rattle.run_table.proofs.get.Kinds as get-kinds
 use Rattle.run_table.proofs.get.Reads as get-reads
 use Rattle.run_table.proofs.put.Kinds as put-kinds
@@ -24,7 +24,7 @@ pub put-unique : Twice put-kinds.ps put-kinds.r put-reads.Post λ κs a x y end 
 put-unique κs a x y end end′ first second = (first .0 ∙ sym (second .0), first .1 ∙ sym (second .1))
 
 -- Lists that differ from the same lists in the places of n terms alone, and hold the calls of the same terms there, are the same.
-pub calls-determined : {terms : List Term} {n : ℕ} {heads₀ inputs₀ heads inputs heads′ inputs′ : List ℕ} → NotesKept n heads₀ inputs₀ heads inputs → NotesKept n heads₀ inputs₀ heads′ inputs′ → Calls terms n heads inputs → Calls terms n heads′ inputs′ → (heads ≡ heads′) × (inputs ≡ inputs′)
+pub calls-determined : {terms : List Term} {n : ℕ} {heads₀ inputs₀ heads inputs heads′ inputs′ : List ℕ} → NotesKept n heads₀ inputs₀ heads inputs → NotesKept n heads₀ inputs₀ heads′ inputs′ → LookupsNoted terms n heads inputs → LookupsNoted terms n heads′ inputs′ → (heads ≡ heads′) × (inputs ≡ inputs′)
 calls-determined {n = n} {heads = heads} {inputs} {heads′} {inputs′} kept kept′ calls calls′ = (
   ext-getD 0 heads heads′ (kept .heads-length ∙ sym (kept′ .heads-length)) (λ k below. head k (decLt k n)),
   ext-getD 0 inputs inputs′ (kept .inputs-length ∙ sym (kept′ .inputs-length)) (λ k below. input k (decLt k (3 * n))),

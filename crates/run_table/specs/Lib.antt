@@ -1,4 +1,4 @@
-pub mod Calls
+pub mod Notes
 pub mod Held
 pub mod Loop
 pub mod Sparse

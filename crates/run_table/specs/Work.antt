@@ -9,7 +9,7 @@ use denote.Ref.{RefT, now}
 use denote.Triple.Both.{Both}
 use Rattle.rules_problem.specs.declared.Term.{Term}
 use Rattle.rules_run.specs.Row.{TERMS, COLUMNS, PLACES, Table}
-use Rattle.run_table.specs.Calls.{Lookups, Notes}
+use Rattle.run_table.specs.Notes.{Lookups, Notes}
 use Rattle.run_table.specs.Held.{tableAt, SoundTo}
 use Rattle.run_table.specs.Sparse.{SETS, Sparse, Linked, Watched}
 

@@ -1,5 +1,5 @@
 -- The lookups of a problem, noted as numbers in two lists: for each term a head, and three inputs. Closing reads these numbers only.
--- Main definitions: `headOf`, `inputOf`, `Calls`, `Lookups`, `InputsBelow`, `Notes`, `NotesKept`. Assume nothing.
+-- Main definitions: `headOf`, `inputOf`, `LookupsNoted`, `Lookups`, `InputsBelow`, `Notes`, `NotesKept`. Assume nothing.
 use mathlib.Core.Path.{_≡_}
 use mathlib.Core.List.{List}
 use mathlib.Core.Option.{some, none}
@@ -23,14 +23,14 @@ unfoldable pub symbolOf : Kind → ℕ
 symbolOf kind = elim (callOf kind) [ none ↦ 0 | some call ↦ call .symbol ]
 
 -- The heads and inputs of the first n terms: head t at place t, its inputs at 3t, 3t + 1 and 3t + 2.
-pub record Calls (terms : List Term) (n : ℕ) (heads inputs : List ℕ) : Type 0 where
+pub record LookupsNoted (terms : List Term) (n : ℕ) (heads inputs : List ℕ) : Type 0 where
   pub head : (t : ℕ) → t < n → getD heads t 0 ≡ headOf (kindAt terms t)
   pub input : (t i : ℕ) → t < n → i < 3 → getD inputs (3 * t + i) 0 ≡ inputOf (kindAt terms t) i
 
 -- The lists hold the lookups of just these n terms, whose symbols are bytes: so different functions have different heads.
 pub record Lookups (terms : List Term) (n : ℕ) (heads inputs : List ℕ) : Type 0 where
   pub count : length terms ≡ n
-  pub calls : Calls terms n heads inputs
+  pub calls : LookupsNoted terms n heads inputs
   pub symbols : (t : ℕ) → t < n → symbolOf (kindAt terms t) < 256
 
 -- Every input is a term.

@@ -25,7 +25,7 @@ use Rattle.run_table.proofs.Columns.{kept-then}
 use Rattle.run_table.proofs.Turns.{stepped-done, stepped-refused}
 use Rattle.run_build.specs.Built.{TableBuilt}
 use Rattle.run_due_pair.proofs.Woken.{all-awake}
-use Rattle.run_close.specs.declared.Closed.{Closed}
+use Rattle.run_close.specs.declared.AfterClosing.{AfterClosing}
 use Rattle.run_close.specs.Contract.{Closes}
 use Rattle.run_progress.specs.declared.Ran.{Ran}
 use Rattle.run_progress.specs.declared.Ran.the-variants.{Ended}
@@ -89,7 +89,7 @@ module _ {bytes : List ℕ} {n : ℕ} {heads₀ inputs₀ heads inputs : List �
         }
 
     -- They are closed.
-    pub begins-closed : {c : Closed} {r : Ran} {new : Work} → Closes n 0 heads inputs c mid new → Places 0 c 65 r → Begins bytes n r heads₀ inputs₀ heads inputs old new
+    pub begins-closed : {c : AfterClosing} {r : Ran} {new : Work} → Closes n 0 heads inputs c mid new → Places 0 c 65 r → Begins bytes n r heads₀ inputs₀ heads inputs old new
     begins-closed {c} {r} {new} closes places =
         record {
           answers = λ problem held.

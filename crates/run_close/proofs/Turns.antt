@@ -34,7 +34,7 @@ use Rattle.run_merge.specs.Outcome.{merged, Unstopped}
 use Rattle.run_merge.specs.Contract.{Mergeable, Hints, Merges}
 use Rattle.run_merge.specs.declared.Merged.{Merged}
 use Rattle.run_merge.specs.declared.Merged.the-variants.{Nothing, Solved, Contradiction as Clash, Refused as Outside}
-use Rattle.run_close.specs.declared.Closed.the-variants.{Going, Contradiction, Refused}
+use Rattle.run_close.specs.declared.AfterClosing.the-variants.{Going, Contradiction, Refused}
 use Rattle.run_close.specs.Outcome.{closed, Counted, WhileOpen}
 use Rattle.run_close.specs.Contract.{stateOf, Closes}
 use Rattle.run_close.specs.Woken.{Woken}

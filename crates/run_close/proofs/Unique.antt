@@ -11,32 +11,32 @@ use Rattle.rules_run.specs.Merge.{State, Stop, contradiction, outside}
 use Rattle.run_table.specs.Loop.{Kept}
 use Rattle.run_table.specs.Work.{Work, tableOf}
 use Rattle.run_table.proofs.Determined.{table-determined, kept-both, lists-determined}
-use Rattle.run_close.specs.declared.Closed.{Closed}
-use Rattle.run_close.specs.declared.Closed.the-variants.{Going, Contradiction, Refused}
+use Rattle.run_close.specs.declared.AfterClosing.{AfterClosing}
+use Rattle.run_close.specs.declared.AfterClosing.the-variants.{Going, Contradiction, Refused}
 use Rattle.run_close.specs.Outcome.{closed, WhileOpen}
 use Rattle.run_close.specs.Contract.{Closable, Closes}
 use Rattle.run_close.proofs.close.Kinds.{ps, r}
 use Rattle.run_close.proofs.close.Reads.{Pre, Post}
 
-closedOf : Made Stop State → Closed
+closedOf : Made Stop State → AfterClosing
 closedOf (made state) = Going (state .solved)
 closedOf (stopped contradiction) = Contradiction
 closedOf (stopped (outside number)) = Refused number
 
-closed-back : (r : Closed) (table : Table) → closedOf (closed r table) ≡ r
+closed-back : (r : AfterClosing) (table : Table) → closedOf (closed r table) ≡ r
 unfolding closed closedOf
 closed-back (Going solved) table = refl
 closed-back Contradiction table = refl
 closed-back (Refused number) table = refl
 
 -- equal answers that go on leave equal tables
-table-back : (r : Closed) {P : Type 0} (table table′ : Table) → closed r table ≡ closed r table′ → (table ≡ table′ → P) → WhileOpen P r
+table-back : (r : AfterClosing) {P : Type 0} (table table′ : Table) → closed r table ≡ closed r table′ → (table ≡ table′ → P) → WhileOpen P r
 unfolding closed WhileOpen
 table-back (Going count) table table′ h k = let same : _≡_ {A = State} (record { table = table; solved = count }) (record { table = table′; solved = count }) = cc in k (ap (λ s. s .table) same)
 table-back Contradiction table table′ h k = tt
 table-back (Refused number) table table′ h k = tt
 
-module _ {n solved : ℕ} {heads inputs : List ℕ} {old new new′ : Work} {x y : Closed} (asked : Closable n solved heads inputs old)
+module _ {n solved : ℕ} {heads inputs : List ℕ} {old new new′ : Work} {x y : AfterClosing} (asked : Closable n solved heads inputs old)
     (first : Closes n solved heads inputs x old new) (second : Closes n solved heads inputs y old new′) where
   both : closed x (tableOf n new) ≡ closed y (tableOf n new′)
   both = let notes = asked .resting .notes in sym (first .answers (notes .terms) (notes .lookups)) ∙ second .answers (notes .terms) (notes .lookups)

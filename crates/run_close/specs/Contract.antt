@@ -13,7 +13,7 @@ use Rattle.run_table.specs.Notes.{Lookups}
 use Rattle.run_table.specs.Held.{SoundTo}
 use Rattle.run_table.specs.Loop.{Kept}
 use Rattle.run_table.specs.Work.{Work, tableOf, Resting}
-use Rattle.run_close.specs.declared.Closed.{Closed}
+use Rattle.run_close.specs.declared.AfterClosing.{AfterClosing}
 use Rattle.run_close.specs.Outcome.{closed, Counted, WhileOpen}
 
 -- the state that the lists and the count hold
@@ -31,7 +31,7 @@ pub record Closable (n solved : ℕ) (heads inputs : List ℕ) (w : Work) : Type
 
 -- The answer and the table are the rule's, of whatever terms the notes are. Only the rows of the n terms have changed, and they are
 -- sound; at most one unknown more is solved in each of n + 1 turns; and where closing goes on, the sets serve again.
-pub record Closes (n solved : ℕ) (heads inputs : List ℕ) (r : Closed) (old new : Work) : Type 0 where
+pub record Closes (n solved : ℕ) (heads inputs : List ℕ) (r : AfterClosing) (old new : Work) : Type 0 where
   pub answers : (terms : List Term) → Lookups terms n heads inputs
       → close byNumber terms (stateOf n old solved) ≡ closed r (tableOf n new)
   pub kept : Kept 0 (COLUMNS * n) (old .nums) (old .dens) (new .nums) (new .dens)

@@ -13,7 +13,7 @@ use Rattle.rules_run.specs.Run.{byNumber, assume}
 use Rattle.run_table.specs.Notes.{Lookups}
 use Rattle.run_table.specs.Held.{SoundTo}
 use Rattle.run_table.specs.Loop.{Kept}
-use Rattle.run_table.specs.Sparse.{Sparse}
+use Rattle.run_table.specs.Sets.{Sparse}
 use Rattle.run_table.specs.Work.{Work, tableOf, Resting}
 use Rattle.run_close.specs.Contract.{stateOf, MOST}
 use Rattle.run_progress.specs.declared.Ran.{Ran}

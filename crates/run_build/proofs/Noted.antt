@@ -17,7 +17,7 @@ use Rattle.rules_problem.specs.declared.Term.{Term}
 use Rattle.rules_problem.specs.Lookup.{callOf, inputsOf, kindAt}
 use Rattle.rules_problem.proofs.Kind.{the-type}
 use Rattle.run_table.specs.Notes.{headOf, inputOf, LookupsNoted, NotesKept}
-use Rattle.run_table.specs.Sparse.{Linked}
+use Rattle.run_table.specs.Sets.{Linked}
 use Rattle.run_build_row.specs.Buildable.{Below}
 use Rattle.run_build.specs.Links.{InputsSmall, Opened}
 use Rattle.run_build.proofs.Linking.{opened-same}

@@ -22,7 +22,7 @@ use Rattle.run_table.specs.declared.Step.the-variants.{Done, Refused}
 use Rattle.run_table.specs.Held.{listed, rowAt, tableAt, SoundTo, stepped}
 use Rattle.run_table.specs.Loop.{Kept}
 use Rattle.run_table.specs.Notes.{LookupsNoted, NotesKept}
-use Rattle.run_table.specs.Sparse.{Sparse, Linked, pendingOf}
+use Rattle.run_table.specs.Sets.{Sparse, Linked, pendingOf}
 use Rattle.run_table.proofs.Columns.{table-length, kept-itself, kept-within, kept-then}
 use Rattle.run_table.proofs.Turns.{stepped-done, stepped-refused, refused-not-done}
 use Rattle.run_build_row.specs.Built.{RowBuilt}

@@ -13,7 +13,7 @@ use Rattle.run_table.specs.declared.Step.the-variants.{Done}
 use Rattle.run_table.specs.Held.{tableAt, SoundTo, stepped}
 use Rattle.run_table.specs.Loop.{Kept}
 use Rattle.run_table.specs.Notes.{LookupsNoted, NotesKept}
-use Rattle.run_table.specs.Sparse.{Sparse, Linked, pendingOf}
+use Rattle.run_table.specs.Sets.{Sparse, Linked, pendingOf}
 use Rattle.run_build.specs.Links.{Opened}
 
 -- The rows of the terms are those that the rule builds, or the rule refuses one of them; no place behind them, or behind what is

@@ -25,7 +25,7 @@ use Rattle.laws_invariant.proofs.Meets.{merge-meets}
 use Rattle.laws_invariant.proofs.Rows.{sameRows-equal}
 use Rattle.run_table.specs.Notes.{Lookups, InputsBelow, Notes}
 use Rattle.run_table.specs.Held.{tableAt}
-use Rattle.run_table.specs.Sparse.{Within, columnsOf, pendingOf, openOf, Linked, Twin, Shut, Waits, Looked, Finds, Watched, Stirred}
+use Rattle.run_table.specs.Sets.{Within, columnsOf, pendingOf, openOf, Linked, Twin, Shut, Waits, Looked, Finds, Watched, Stirred}
 use Rattle.run_table.specs.Work.{Work, withSets, tableOf, Rows, Serving}
 use Rattle.run_due_pair.proofs.Heads.{due-heads}
 use Rattle.run_due_pair.proofs.Twins.{rows-kept, shut-kept}

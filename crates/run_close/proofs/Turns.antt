@@ -21,7 +21,7 @@ use Rattle.rules_run.specs.Run.{byNumber}
 use Rattle.laws_invariant.proofs.Due.{due-some}
 use Rattle.run_table.specs.Notes.{Lookups}
 use Rattle.run_table.specs.Loop.{Kept}
-use Rattle.run_table.specs.Sparse.{RIGHTS, pendingOf, openOf, Looked}
+use Rattle.run_table.specs.Sets.{RIGHTS, pendingOf, openOf, Looked}
 use Rattle.run_table.specs.Work.{Work, withSets, tableOf, Serving, Resting}
 use Rattle.run_table.proofs.Columns.{kept-itself, kept-then}
 use Rattle.run_due_pair.specs.Found.{Below, pairOf}

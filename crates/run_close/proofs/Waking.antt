@@ -13,7 +13,7 @@ use lib.Seq.{getD-set-same, getD-set-other}
 use Rattle.set_members.specs.Sets.{holds}
 use Rattle.set_members.proofs.Digits.{holds-none}
 use Rattle.set_extremes.specs.Ends.{Next}
-use Rattle.run_table.specs.Sparse.{earlierOf, pendingOf, openOf, Waits}
+use Rattle.run_table.specs.Sets.{earlierOf, pendingOf, openOf, Waits}
 use Rattle.run_close.specs.Woken.{isWoken, Grown, RightWoken, Woken}
 
 pub grown-itself : (waiting : List ℕ) → Grown waiting waiting

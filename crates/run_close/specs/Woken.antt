@@ -8,7 +8,7 @@ use Prim.Native.Nat.{ℕ, _<_}
 use lib.ListN.{length, getD}
 use Rattle.set_members.specs.Sets.{holds}
 use Rattle.rules_run.specs.Row.{TERMS}
-use Rattle.run_table.specs.Sparse.{PENDING, earlierOf, pendingOf, openOf, Waits}
+use Rattle.run_table.specs.Sets.{PENDING, earlierOf, pendingOf, openOf, Waits}
 
 -- whether lookup j is to be compared with i: an open one before it of its function, where one of the two is pending
 abbrev pub isWoken : (sets : List ℕ) → (i j : ℕ) → Bool

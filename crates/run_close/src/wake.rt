@@ -8,7 +8,7 @@ ghost use Prim.Native.Nat.{ℕ, _<_, _≤_};
 ghost use lib.ListN.{length};
 ghost use Rattle.set_members.specs.Sets.{holds};
 ghost use Rattle.rules_run.specs.Row.{TERMS};
-ghost use Rattle.run_table.specs.Sparse.{SETS, RIGHTS};
+ghost use Rattle.run_table.specs.Sets.{SETS, RIGHTS};
 ghost use Rattle.run_close.specs.Woken.{isWoken, RightWoken, Woken};
 
 // The open lookups before j that j is compared with: those of its function, all of them if j is pending, else those that are.

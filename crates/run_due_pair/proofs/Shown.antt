@@ -13,7 +13,7 @@ use Rattle.rules_problem.specs.declared.Kind.the-variants.{Variable, Lookup1}
 use Rattle.rules_problem.specs.declared.Term.{Term}
 use Rattle.rules_problem.specs.Lookup.{callOf, inputsOf, kindAt}
 use Rattle.run_table.specs.Notes.{headOf, inputOf, symbolOf, Lookups, InputsBelow}
-use Rattle.run_table.specs.Sparse.{SETS, usersOf, earlierOf, pendingOf, openOf, Linked}
+use Rattle.run_table.specs.Sets.{SETS, usersOf, earlierOf, pendingOf, openOf, Linked}
 use Rattle.run_table.specs.Work.{Rows, Resting}
 use Rattle.run_due_pair.proofs.Heads.{inputs-below}
 use Rattle.run_due_pair.proofs.Woken.{all-awake}

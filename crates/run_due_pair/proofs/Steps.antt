@@ -20,7 +20,7 @@ use Rattle.rules_run.specs.Row.{sameRow}
 use Rattle.rules_run.specs.Close.{isDue, first}
 use Rattle.laws_invariant.proofs.Pivot.{last-or-before}
 use Rattle.run_table.specs.Notes.{Lookups}
-use Rattle.run_table.specs.Sparse.{RIGHTS, openOf, Waits, Watched}
+use Rattle.run_table.specs.Sets.{RIGHTS, openOf, Waits, Watched}
 use Rattle.run_table.specs.Work.{Work, tableOf, Serving}
 use Rattle.run_equal_rows.specs.Contract.{Comparable}
 use Rattle.run_due_pair.specs.declared.Due.{Due}

@@ -15,7 +15,7 @@ use Rattle.rules_problem.specs.Lookup.{Call, callOf, inputsOf, sameFunction, al
 use Rattle.rules_run.specs.Row.{Table, sameRow}
 use Rattle.rules_run.specs.Close.{sameRows, isDue}
 use Rattle.laws_invariant.proofs.Rows.{sameRow-equal}
-use Rattle.run_table.specs.Sparse.{Twin, Shut}
+use Rattle.run_table.specs.Sets.{Twin, Shut}
 
 -- Lookups of one function: both ways, and one after another.
 function-back : (f g : Option Call) → sameFunction f g ≡ true → sameFunction g f ≡ true

@@ -19,7 +19,7 @@ use Rattle.rules_run.specs.Row.{Table, COLUMNS, sameTo, sameRow}
 use Rattle.rules_run.specs.Close.{due}
 use Rattle.laws_invariant.proofs.Due.{none-due}
 use Rattle.run_table.specs.Held.{rowAt, tableAt}
-use Rattle.run_table.specs.Sparse.{usersOf, pendingOf, openOf, Linked, Stirred, Shut, Looked, Finds, Watched}
+use Rattle.run_table.specs.Sets.{usersOf, pendingOf, openOf, Linked, Stirred, Shut, Looked, Finds, Watched}
 use Rattle.run_table.proofs.Linked.{linked-same}
 use Rattle.run_table.specs.Notes.{Lookups, InputsBelow}
 use Rattle.run_equal_rows.proofs.Equal.{same-rows}

@@ -13,7 +13,7 @@ use Rattle.rules_problem.specs.Lookup.{alike}
 use Rattle.rules_run.specs.Row.{TERMS}
 use Rattle.rules_run.specs.Close.{isDue, due}
 use Rattle.run_table.specs.Notes.{headOf, symbolOf, Lookups, InputsBelow, Notes}
-use Rattle.run_table.specs.Sparse.{RIGHTS, pendingOf, openOf}
+use Rattle.run_table.specs.Sets.{RIGHTS, pendingOf, openOf}
 use Rattle.run_table.specs.Work.{Work, tableOf, Rows, Serving}
 use Rattle.run_due_pair.specs.declared.Due.{Due}
 use Rattle.run_due_pair.specs.Found.{leftAmong, pairOf, Below}

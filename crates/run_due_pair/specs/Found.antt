@@ -13,7 +13,7 @@ use Rattle.rules_problem.specs.declared.Term.{Term}
 use Rattle.rules_problem.specs.Problem.{Pair}
 use Rattle.rules_run.specs.Row.{Table, sameRow}
 use Rattle.rules_run.specs.Close.{isDue, first}
-use Rattle.run_table.specs.Sparse.{RIGHTS}
+use Rattle.run_table.specs.Sets.{RIGHTS}
 use Rattle.run_due_pair.specs.declared.Due.{Due}
 use Rattle.run_due_pair.specs.declared.Due.the-variants.{Pair as Found, NoneDue}
 

@@ -16,7 +16,7 @@ ghost use mathlib.Core.Path.{_≡_};
 ghost use Prim.Native.Nat.{_<_, _≤_};
 ghost use lib.ListN.{length};
 ghost use Rattle.rules_run.specs.Row.{TERMS};
-ghost use Rattle.run_table.specs.Sparse.{SETS, RIGHTS};
+ghost use Rattle.run_table.specs.Sets.{SETS, RIGHTS};
 ghost use Rattle.run_table.specs.Work.{lent, entered, tableOf};
 ghost use Rattle.run_due_pair.specs.Found.{sameInput, sameInputs, RightPassed};
 ghost use Rattle.run_due_pair.specs.Contract.{Alike, InputsComparable, PairComparable, TellsDue, OpenWaiting};

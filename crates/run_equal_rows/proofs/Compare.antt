@@ -16,7 +16,7 @@ use Rattle.fraction.specs.Exact.{value, eqℚ}
 use Rattle.fraction_reduce.specs.Values.{Good}
 use Rattle.rules_run.specs.Row.{TERMS, COLUMNS, sameTo, sameRow}
 use Rattle.run_table.specs.Held.{heldAt, rowAt, tableAt}
-use Rattle.run_table.specs.Sparse.{columnsOf}
+use Rattle.run_table.specs.Sets.{columnsOf}
 use Rattle.run_table.proofs.Columns.{column-held, sound-fewer}
 use Rattle.run_table.proofs.Sparse.{within-left, within-right}
 use Rattle.run_equal_rows.specs.Contract.{BothGood, RowsStand, RowsWithin, TermsWithin, Comparable, sameColumn, sameAt}

@@ -10,7 +10,7 @@ use Rattle.fraction.specs.Exact.{eqℚ}
 use Rattle.fraction_reduce.specs.Values.{Good}
 use Rattle.rules_run.specs.Row.{TERMS, COLUMNS, PLACES, column, sameTo}
 use Rattle.run_table.specs.Held.{rowAt, SoundTo}
-use Rattle.run_table.specs.Sparse.{Within}
+use Rattle.run_table.specs.Sets.{Within}
 use Rattle.run_table.specs.Work.{Work, Rows}
 
 -- two fractions in lowest terms

@@ -26,7 +26,7 @@ use Rattle.run_table.specs.declared.Step.{Step}
 use Rattle.run_table.specs.declared.Step.the-variants.{Done}
 use Rattle.run_table.specs.Held.{heldAt, rowAt, SoundTo}
 use Rattle.run_table.specs.Loop.{Kept, RowMade}
-use Rattle.run_table.specs.Sparse.{Within, columnsOf, usersOf, pendingOf, Sparse, Stirred}
+use Rattle.run_table.specs.Sets.{Within, columnsOf, usersOf, pendingOf, Sparse, Stirred}
 use Rattle.run_table.proofs.Columns.{column-held, kept-row}
 use Rattle.run_table.proofs.Sparse.{zero-numerator, stirred-itself}
 use Rattle.run_table.proofs.Stirred.{within-kept}

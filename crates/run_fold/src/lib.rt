@@ -15,7 +15,7 @@ ghost use Rattle.fraction_reduce.specs.Values.{Good, Answers};
 ghost use Rattle.rules_run.specs.Merge.{foldedColumn, folded};
 ghost use Rattle.run_table.specs.Held.{rowAt, tableAt, SoundTo, stepped};
 ghost use Rattle.run_table.specs.Loop.{Kept, RowMade};
-ghost use Rattle.run_table.specs.Sparse.{Within, Sparse, Stirred};
+ghost use Rattle.run_table.specs.Sets.{Within, Sparse, Stirred};
 ghost use Rattle.run_table.specs.declared.Step.the-variants.{Done};
 ghost use Rattle.run_fold.specs.Cell.{gainedBy, reached, gainedColumn};
 ghost use Rattle.run_fold.specs.Sets.{Noted, Turn};

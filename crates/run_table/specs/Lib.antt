@@ -1,5 +1,5 @@
 pub mod Notes
 pub mod Held
 pub mod Loop
-pub mod Sparse
+pub mod Sets
 pub mod Work

@@ -11,7 +11,7 @@ use Rattle.rules_problem.specs.declared.Term.{Term}
 use Rattle.rules_run.specs.Row.{TERMS, COLUMNS, PLACES, Table}
 use Rattle.run_table.specs.Notes.{Lookups, Notes}
 use Rattle.run_table.specs.Held.{tableAt, SoundTo}
-use Rattle.run_table.specs.Sparse.{SETS, Sparse, Linked, Watched}
+use Rattle.run_table.specs.Sets.{SETS, Sparse, Linked, Watched}
 
 pub record Work : Type 0 where
   pub nums : List ℤ

@@ -13,7 +13,7 @@ use Rattle.rules_problem.specs.Bits.{field}
 use Rattle.rules_problem.specs.Problem.{Problem, decoded}
 use Rattle.rules_problem.specs.Lookup.{kindAt}
 use Rattle.run_table.specs.Notes.{LookupsNoted, NotesKept}
-use Rattle.run_table.specs.Sparse.{Sparse, Linked, pendingOf}
+use Rattle.run_table.specs.Sets.{Sparse, Linked, pendingOf}
 use Rattle.run_table.specs.declared.Step.the-variants.{Done}
 use Rattle.run_build_row.specs.Buildable.{Written, Buildable}
 use Rattle.run_build_row.specs.Built.{RowBuilt}

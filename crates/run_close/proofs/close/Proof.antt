@@ -4,7 +4,7 @@ use mathlib.Core.Path.{_≡_, sym}
 use Prim.Native.Nat.{_-_}
 use native.Mathlib.Omega.{arith}
 use lib.ListN.{length}
-use Rattle.run_table.specs.Sparse.{pendingOf, openOf}
+use Rattle.run_table.specs.Sets.{pendingOf, openOf}
 use Rattle.run_table.specs.Work.{lent}
 use Rattle.run_merge.specs.Contract.{leftBy}
 use Rattle.run_due_pair.specs.Contract.{waitingBy}

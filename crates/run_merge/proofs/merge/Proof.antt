@@ -5,7 +5,7 @@ use native.Mathlib.Omega.{arith}
 use Prim.Native.Nat.{_+_, _*_}
 use denote.Ref.{now}
 use Rattle.run_table.specs.Held.{tableAt}
-use Rattle.run_table.specs.Sparse.{columnsOf}
+use Rattle.run_table.specs.Sets.{columnsOf}
 use Rattle.run_table.proofs.Columns.{sound-zeros, sound-fewer, kept-itself}
 use Rattle.run_table.proofs.Turns.{stepped-done, stepped-refused}
 use Rattle.run_merge.specs.Outcome.{Unstopped}

@@ -1,7 +1,7 @@
 -- One assumption: its sides merged, then closed.
 -- Main results: `assumes-same`, `assumes-more`, `same-closes`, `more-closes`, `assumes-contradicts`, `assumes-refuses`. Assume nothing.
 use mathlib.Core.Path.{_≡_, refl, ap, _∙_, subst}
-use mathlib.Core.List.{List, []}
+use mathlib.Core.List.{List}
 use Prim.Native.Nat.{ℕ, suc, _+_}
 use native.Mathlib.Omega.{arith}
 use Rattle.answer.specs.declared.Answer.the-variants.{Contradictory, Refused}
@@ -9,23 +9,21 @@ use Rattle.fraction.specs.Made.{made, _>>=_, because}
 use Rattle.rules_problem.specs.declared.Term.{Term}
 use Rattle.rules_run.specs.Close as rule
 use Rattle.rules_run.specs.Run.{byNumber, ends}
-use Rattle.run_table.specs.Work.{Work, tableOf}
+use Rattle.run_table.specs.Work.{Work, tableOf, Resting}
 use Rattle.run_table.proofs.Columns.{kept-then}
 use Rattle.run_merge.specs.Outcome.{merged, Unstopped}
 use Rattle.run_merge.specs.Contract.{Hints, Merges}
 use Rattle.run_merge.specs.declared.Merged.{Merged}
 use Rattle.run_merge.specs.declared.Merged.the-variants.{Nothing, Solved, Contradiction as Clash, Refused as Outside}
-use Rattle.run_due_pair.specs.Found.{Lookups}
-use Rattle.run_close.specs.declared.Closed.{Closed}
-use Rattle.run_close.specs.Ready.{Resting}
+use Rattle.run_close.specs.declared.AfterClosing.{AfterClosing}
 use Rattle.run_close.specs.Contract.{stateOf, Closable, Closes}
-use Rattle.run_close.proofs.Sets.{ready-merged, merged-awake}
+use Rattle.run_close.proofs.Sets.{ready-of, serves, ready-merged, merged-awake}
 use Rattle.run_progress.specs.declared.Ran.{Ran}
 use Rattle.run_progress.specs.declared.Ran.the-variants.{Ended}
 use Rattle.run_progress.specs.Ran.{ran, AtMost, WhileGoing, Places}
 use Rattle.run_progress.proofs.Going.{open-going}
 use Rattle.run_assume.specs.Assumed.{assumed}
-use Rattle.run_assume.specs.Contract.{Assumable, Assumes}
+use Rattle.run_assume.specs.Contract.{EACH, Assumable, Assumes}
 
 module _ {n left right solved : ℕ} {heads inputs : List ℕ} {old mid : Work} {answer : Merged} (ready : Assumable n left right solved heads inputs old) (merges : Merges n left right answer old mid) where
   after : (place : ℕ) (to : Merged) → answer ≡ to → (terms : List Term) → assumed terms place left right (stateOf n old solved) ≡ because (ends place) (merged to solved (tableOf n mid) >>= rule.close byNumber terms)
@@ -37,13 +35,12 @@ module _ {n left right solved : ℕ} {heads inputs : List ℕ} {old mid : Work} 
     rests : Resting n heads inputs mid
     rests =
         let resting = ready .resting in
-        record {
-          ready = ready-merged (resting .ready) (merges .left) hints;
-          awake = record { watched = λ terms lookups. merged-awake left right solved count lookups (resting .ready .noted .below) (resting .ready .linked) (hints .stirred) (merges .answers solved ∙ ap (λ a. merged a solved (tableOf n mid)) is ∙ goes-on) (resting .awake .watched terms lookups) };
-        }
+        serves (ready-merged (ready-of resting) (merges .left) hints) λ terms lookups.
+        merged-awake left right solved count lookups (resting .notes .below) (resting .linked) (hints .stirred)
+        (merges .answers solved ∙ ap (λ a. merged a solved (tableOf n mid)) is ∙ goes-on) (resting .watched terms lookups)
 
     -- Closing gives what the assumption comes to.
-    closes-on : {place : ℕ} {c : Closed} {r : Ran} {new : Work} → Closes n count heads inputs c mid new → Places place c (solved + 66) r → Assumes n place left right solved heads inputs r old new
+    closes-on : {place : ℕ} {c : AfterClosing} {r : Ran} {new : Work} → Closes n count heads inputs c mid new → Places place c (solved + EACH) r → Assumes n place left right solved heads inputs r old new
     unfolding _>>=_
     closes-on {place} {c} {r} {new} closes places =
         record {
@@ -73,11 +70,11 @@ module _ {n left right solved : ℕ} {heads inputs : List ℕ} {old mid : Work} 
   unfolding Unstopped
   assumes-more is = record { resting = rests Solved is (solved + 1) one-more (hints-of Solved is); few-solved = omega (arith, ready .few-solved) }
 
-  pub same-closes : answer ≡ Nothing → {place : ℕ} {c : Closed} {r : Ran} {new : Work} → Closes n solved heads inputs c mid new → Places place c (solved + 66) r → Assumes n place left right solved heads inputs r old new
+  pub same-closes : answer ≡ Nothing → {place : ℕ} {c : AfterClosing} {r : Ran} {new : Work} → Closes n solved heads inputs c mid new → Places place c (solved + EACH) r → Assumes n place left right solved heads inputs r old new
   unfolding merged Unstopped
   same-closes is = closes-on Nothing is solved refl (hints-of Nothing is)
 
-  pub more-closes : answer ≡ Solved → {place : ℕ} {c : Closed} {r : Ran} {new : Work} → Closes n (solved + 1) heads inputs c mid new → Places place c (solved + 66) r → Assumes n place left right solved heads inputs r old new
+  pub more-closes : answer ≡ Solved → {place : ℕ} {c : AfterClosing} {r : Ran} {new : Work} → Closes n (solved + 1) heads inputs c mid new → Places place c (solved + EACH) r → Assumes n place left right solved heads inputs r old new
   unfolding Unstopped
   more-closes is = closes-on Solved is (solved + 1) one-more (hints-of Solved is)
 

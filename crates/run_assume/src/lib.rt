@@ -5,6 +5,9 @@ use run_progress::Ran;
 ghost use Rattle.run_table.specs.Work.{lent, entered, leaving};
 ghost use Rattle.run_assume.specs.Contract.{Assumable, Assumes, AllAssumable, AssumesAll};
 
+// The most unknowns that one assumption solves: one in the merge of its sides, and one in each of at most 65 turns of closing.
+const EACH: usize = 66;
+
 // 01, The run, 3: one assumption, its sides merged, then closed.
 fn assume_one(
     nums: &mut [i32],
@@ -19,18 +22,19 @@ fn assume_one(
     solved: usize,
 ) -> Ran
     requires { ⌜ Assumable n left right solved (now heads) (now inputs) (lent nums dens sets) ⌝ }
-    ensures { λ r. ⌜ Assumes n place left right solved (now (heads .entry)) (now (inputs .entry)) r (entered nums dens sets) (leaving nums dens sets) ⌝ }
+    ensures { λ r.
+        ⌜ Assumes n place left right solved (now (heads .entry)) (now (inputs .entry)) r (entered nums dens sets) (leaving nums dens sets) ⌝ }
 {
     match run_merge::merge(nums, dens, n, left, right, sets) {
         Merged::Nothing => run_progress::placed(
             place,
             run_close::close(nums, dens, n, heads, inputs, sets, solved),
-            solved + 66,
+            solved + EACH,
         ),
         Merged::Solved => run_progress::placed(
             place,
             run_close::close(nums, dens, n, heads, inputs, sets, solved + 1),
-            solved + 66,
+            solved + EACH,
         ),
         Merged::Contradiction => Ran::Ended(Answer::Contradictory { place: place }),
         Merged::Refused(number) => Ran::Ended(Answer::Refused {

@@ -28,7 +28,7 @@ module _ {bytes : List ℕ} {n : ℕ} {x y : Ran} {heads₀ inputs₀ heads inpu
       let other = going-holds (sym answers-same ∙ going) (second .prepared) in
       let (nums-same, dens-same) =
       lists-determined (first .kept) (second .kept) λ k above below.
-      table-determined n (one .resting .ready .rows .sound) (other .resting .ready .rows .sound) (going-determined x y (tableOf n new) (tableOf n new′) (first .answers (held .problem) (held .same)) (second .answers (held .problem) (held .same)) going) k below
+      table-determined n (one .resting .rows .sound) (other .resting .rows .sound) (going-determined x y (tableOf n new) (tableOf n new′) (first .answers (held .problem) (held .same)) (second .answers (held .problem) (held .same)) going) k below
       in
       let (heads-same, inputs-same) =
       calls-determined (first .notes) (second .notes) (one .lookups (held .problem) (held .same) .calls) (other .lookups (held .problem) (held .same) .calls)

@@ -12,7 +12,7 @@ ghost use Rattle.run_close.specs.Contract.{Closable, Closes};
 
 // What closing does: it goes on with the count of solved unknowns, no pair being due; or it stops, since no reading is left, or
 // with the number of a refusal.
-pub enum Closed {
+pub enum AfterClosing {
     Going(usize),
     Contradiction,
     Refused(u8),
@@ -29,12 +29,12 @@ pub fn close(
     inputs: &[u8],
     sets: &mut [u64],
     solved: usize,
-) -> Closed
+) -> AfterClosing
     requires { ⌜ Closable n solved (now heads) (now inputs) (lent nums dens sets) ⌝ }
     ensures { λ r. ⌜ Closes n solved (now (heads .entry)) (now (inputs .entry)) r (entered nums dens sets) (leaving nums dens sets) ⌝ }
 {
     if sets[PENDING] == 0 {
-        return Closed::Going(solved);
+        return AfterClosing::Going(solved);
     }
     let mut waiting = [0u64; RIGHTS + 1];
     let mut count = solved;
@@ -42,7 +42,7 @@ pub fn close(
     while 0 < turns {
         wake(n, sets, &mut waiting);
         match run_due_pair::find_due(nums, dens, n, heads, inputs, sets, &mut waiting) {
-            Due::Closed => return Closed::Going(count),
+            Due::NoneDue => return AfterClosing::Going(count),
             Due::Pair { left, right } => {
                 let open = set_members::without(sets[OPEN], right);
                 sets[OPEN] = open;
@@ -52,12 +52,12 @@ pub fn close(
                         count += 1;
                         turns -= 1;
                     }
-                    Merged::Contradiction => return Closed::Contradiction,
-                    Merged::Refused(number) => return Closed::Refused(number),
+                    Merged::Contradiction => return AfterClosing::Contradiction,
+                    Merged::Refused(number) => return AfterClosing::Refused(number),
                 }
             }
         }
     }
     sets[PENDING] = set_members::ALL;
-    Closed::Going(count)
+    AfterClosing::Going(count)
 }

@@ -1,5 +1,5 @@
 -- Looking for the first number for which something is given, one by one.
--- Main results: `first-passed`, `first-found`, `first-over`, `first-skips`, `first-nowhere`, `first-agrees`, `pair-given`, `pair-none`, `due-searched`, `left-searched`, `among-searched`. Assume nothing.
+-- Main results: `first-passed`, `first-found`, `first-over`, `first-skips`, `first-nowhere`, `first-agrees`, `pair-given`, `pair-none`, `due-searched`, `among-searched`. Assume nothing.
 use mathlib.Core.Path.{_≡_, refl, sym, ap, _∙_}
 use mathlib.Core.Bool.{Bool, true, cond}
 use mathlib.Core.List.{List}
@@ -82,10 +82,6 @@ pair-none terms table i j is nothing = some-not-none (sym (pair-given terms tabl
     some-not-none e = let no-way : _≡_ {A = ℕ} 0 1 = cc in absurd (omega arith)
 
 -- The searches of the rules, from their first number on.
-pub left-searched : (terms : List Term) (table : Table) (j : ℕ) → leftFor terms table j ≡ first (j - 0) 0 (pairFor terms table j)
-unfolding leftFor
-left-searched terms table j = rw sub-zero
-
 pub among-searched : (lefts : ℕ) (terms : List Term) (table : Table) (j : ℕ) → leftAmong lefts terms table j ≡ first (j - 0) 0 (pairAmong lefts terms table j)
 unfolding leftAmong
 among-searched lefts terms table j = rw sub-zero

@@ -1,33 +1,33 @@
--- A problem of three terms, the numbers that hold its lookups, and sets that link them.
--- Main results: `shown-lookups`, `shown-inputs`, `shown-linked`, `shown-awake`. Assume nothing.
+-- What closing asks for can be met: a problem of three terms, the notes of its lookups, and sets that serve it.
+-- Main result: `shown-resting`. Assumes nothing.
 use mathlib.Core.Path.{_≡_, refl, sym, ap, _∙_}
 use mathlib.Core.Bool.{true}
 use mathlib.Core.List.{List, [], _∷_}
 use Prim.Native.Nat.{ℕ, zero, suc, _+_, _*_, _<_}
 use native.Mathlib.Omega.{arith}
-use lib.ListN.{getD, replicate, getD-replicate}
+use lib.ListN.{getD, replicate, getD-replicate, length-replicate}
+use lib.IntN.{ℤ}
 use Rattle.set_members.specs.Sets.{holds}
 use Rattle.set_members.proofs.Digits.{holds-all}
 use Rattle.rules_problem.specs.declared.Kind.the-variants.{Variable, Lookup1}
 use Rattle.rules_problem.specs.declared.Term.{Term}
 use Rattle.rules_problem.specs.Lookup.{callOf, inputsOf, kindAt}
-use Rattle.rules_run.specs.Row.{Table}
-use Rattle.run_table.specs.Calls.{headOf, inputOf, Calls}
-use Rattle.run_table.specs.Sparse.{usersOf, earlierOf, pendingOf, openOf, Linked}
-use Rattle.run_due_pair.specs.Found.{symbolOf, Lookups, InputsBelow, Awake}
+use Rattle.run_table.specs.Notes.{headOf, inputOf, symbolOf, Lookups, InputsBelow}
+use Rattle.run_table.specs.Sets.{SETS, usersOf, earlierOf, pendingOf, openOf, Linked}
+use Rattle.run_table.specs.Work.{Rows, Resting}
 use Rattle.run_due_pair.proofs.Heads.{inputs-below}
 use Rattle.run_due_pair.proofs.Woken.{all-awake}
 
 -- sets that hold every number
 abbrev sets : List ℕ
-sets = replicate 194 18446744073709551615
+sets = replicate SETS 18446744073709551615
 
 -- a variable, and lookup 7 of it twice
 abbrev terms : List Term
 terms = record { kind = Variable 0 } ∷ record { kind = Lookup1 7 0 } ∷ record { kind = Lookup1 7 0 } ∷ []
 
 abbrev heads : List ℕ
-heads = 0 ∷ 263 ∷ 263 ∷ []
+heads = 0 ∷ 263 ∷ 263 ∷ replicate 61 0
 
 abbrev inputs : List ℕ
 inputs = replicate 192 0
@@ -55,7 +55,7 @@ input-zero (suc (suc zero)) zero below = refl
 input-zero (suc (suc zero)) (suc i) below = refl
 input-zero (suc (suc (suc t))) i below = absurd (omega arith)
 
-pub shown-lookups : Lookups terms 3 heads inputs
+shown-lookups : Lookups terms 3 heads inputs
 shown-lookups =
     record {
       count = refl;
@@ -63,13 +63,13 @@ shown-lookups =
       symbols = symbol-is;
     }
 
-pub shown-inputs : InputsBelow 3 inputs
+shown-inputs : InputsBelow 3 inputs
 shown-inputs = inputs-below (shown-lookups .calls) (λ t i p q. omega (arith, input-zero t i p))
 
-holds-each : (k i : ℕ) → k < 194 → i < 64 → holds (getD sets k 0) i ≡ true
-holds-each k i place below = ap (λ set. holds set i) (getD-replicate 194 k 18446744073709551615 0 place) ∙ holds-all i below
+holds-each : (k i : ℕ) → k < SETS → i < 64 → holds (getD sets k 0) i ≡ true
+holds-each k i place below = ap (λ set. holds set i) (getD-replicate SETS k 18446744073709551615 0 place) ∙ holds-all i below
 
-pub shown-linked : Linked 3 heads inputs sets
+shown-linked : Linked 3 heads inputs sets
 unfolding usersOf earlierOf
 shown-linked =
     record {
@@ -77,6 +77,20 @@ shown-linked =
       earlier = λ i j before below lookup one. holds-each (128 + j) i (omega arith) (omega arith);
     }
 
-pub shown-awake : (table : Table) → Awake terms 3 table sets
-unfolding pendingOf openOf
-shown-awake table = all-awake table shown-lookups (omega arith) (λ k below. holds-each 192 k (omega arith) below) (λ j below lookup. holds-each 193 j (omega arith) (omega arith))
+shown-pending : (k : ℕ) → k < 64 → holds (pendingOf sets) k ≡ true
+unfolding pendingOf
+shown-pending k below = holds-each 192 k (omega arith) below
+
+shown-open : (k : ℕ) → k < 64 → holds (openOf sets) k ≡ true
+unfolding openOf
+shown-open k below = holds-each 193 k (omega arith) below
+
+-- Whatever the rows are, these sets serve.
+pub shown-resting : {nums dens : List ℤ} → Rows 3 (record { nums = nums; dens = dens; sets = sets }) → Resting 3 heads inputs (record { nums = nums; dens = dens; sets = sets })
+shown-resting rows =
+    record {
+      rows = rows;
+      notes = record { heads-fit = omega arith; inputs-fit = omega (arith, length-replicate {A = ℕ} 192 0); below = shown-inputs; terms = terms; lookups = shown-lookups };
+      linked = shown-linked;
+      watched = λ other lookups. all-awake _ lookups (omega arith) shown-pending (λ j below lookup. shown-open j (omega arith));
+    }

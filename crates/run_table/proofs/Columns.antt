@@ -12,7 +12,7 @@ use lib.IntN.{ℤ, pos}
 use Rattle.fraction.specs.Exact.{value, zeroℚ}
 use Rattle.fraction_reduce.specs.Values.{Good}
 use Rattle.fraction_reduce.proofs.Tests.{zero-stands}
-use Rattle.rules_run.specs.Row.{TERMS, COLUMNS, column, rowOf}
+use Rattle.rules_run.specs.Row.{COLUMNS, column, rowOf}
 use Rattle.run_table.specs.Held.{heldAt, listed, rowAt, tableAt, SoundTo}
 use Rattle.run_table.specs.Loop.{Kept}
 

@@ -1,5 +1,5 @@
 -- What the values fix: lists that hold the same values, in lowest terms and within the limits, hold the same numbers.
--- Main results: `step-determined`, `done-determined`, `row-determined`, `table-determined`, `lists-determined`, `row-made-unique`. Assume nothing.
+-- Main results: `step-determined`, `done-determined`, `row-determined`, `table-determined`, `kept-both`, `lists-determined`, `row-made-unique`. Assume nothing.
 use mathlib.Core.Path.{_≡_, refl, sym, ap, _∙_}
 use mathlib.Core.Logic.{inl, inr}
 use mathlib.Core.List.{List}
@@ -11,31 +11,31 @@ use lib.IntN.{ℤ, pos}
 use Rattle.fraction.specs.Exact.{ℚ}
 use Rattle.fraction.specs.Made.{Made, made, stopped}
 use Rattle.fraction_reduce.proofs.Lowest.{value-one-to-one}
-use Rattle.rules_run.specs.Row.{TERMS, COLUMNS, column, rowOf}
+use Rattle.rules_run.specs.Row.{column, rowOf}
 use Rattle.run_table.specs.declared.Step.{Step}
 use Rattle.run_table.specs.declared.Step.the-variants.{Done, Refused}
-use Rattle.run_table.specs.Held.{heldAt, rowAt, tableAt, SoundTo, finished}
+use Rattle.run_table.specs.Held.{heldAt, rowAt, tableAt, SoundTo, stepped}
 use Rattle.run_table.specs.Loop.{Kept, RowMade}
 use Rattle.run_table.proofs.Columns.{column-held, row-held}
-use Rattle.run_table.proofs.Turns.{finished-done}
+use Rattle.run_table.proofs.Turns.{stepped-done}
 
 stepOf {ℓ} : {A : Type ℓ} → Made ℕ A → Step
 stepOf (made a) = Done
 stepOf (stopped number) = Refused number
 
-step-back {ℓ} : {A : Type ℓ} (step : Step) (a : A) → stepOf (finished step a) ≡ step
-unfolding finished stepOf
+step-back {ℓ} : {A : Type ℓ} (step : Step) (a : A) → stepOf (stepped step a) ≡ step
+unfolding stepped stepOf
 step-back Done a = refl
 step-back (Refused number) a = refl
 
 -- What the rule makes fixes how a step ends, and what it leaves where it is done.
-pub step-determined {ℓ} : {A : Type ℓ} {m : Made ℕ A} (r s : Step) (a b : A) → m ≡ finished r a → m ≡ finished s b → r ≡ s
+pub step-determined {ℓ} : {A : Type ℓ} {m : Made ℕ A} (r s : Step) (a b : A) → m ≡ stepped r a → m ≡ stepped s b → r ≡ s
 step-determined r s a b p q = sym (step-back r a) ∙ ap stepOf (sym p ∙ q) ∙ step-back s b
 
-pub done-determined {ℓ} : {A : Type ℓ} {m : Made ℕ A} (r s : Step) (a b : A) → m ≡ finished r a → m ≡ finished s b → r ≡ Done → a ≡ b
+pub done-determined {ℓ} : {A : Type ℓ} {m : Made ℕ A} (r s : Step) (a b : A) → m ≡ stepped r a → m ≡ stepped s b → r ≡ Done → a ≡ b
 done-determined r s a b p q done =
-    let first : _≡_ {A = Made ℕ _} _ (made a) = finished-done p done in
-    let second : _≡_ {A = Made ℕ _} _ (made b) = finished-done q (sym (step-determined r s a b p q) ∙ done) in
+    let first : _≡_ {A = Made ℕ _} _ (made a) = stepped-done p done in
+    let second : _≡_ {A = Made ℕ _} _ (made b) = stepped-done q (sym (step-determined r s a b p q) ∙ done) in
     cc
 
 module _ {nums dens nums′ dens′ : List ℤ} where
@@ -54,7 +54,16 @@ module _ {nums dens nums′ dens′ : List ℤ} where
       rw place (row-determined (65 * t) (omega arith) first second
       (sym (row-held n nums dens t inside) ∙ ap (λ table. rowOf table t) same ∙ row-held n nums′ dens′ t inside) (k % 65) (omega arith))
 
-  -- Lists that differ from the same lists in the same places alone, and hold the same there, are the same.
+  -- Lists that differ from the same lists in the same places alone differ from each other in no other,
+  pub kept-both : {base end : ℕ} {nums₀ dens₀ : List ℤ} → Kept base end nums₀ dens₀ nums dens → Kept base end nums₀ dens₀ nums′ dens′ → Kept base end nums dens nums′ dens′
+  kept-both first second =
+      record {
+        nums-length = second .nums-length ∙ sym (first .nums-length);
+        dens-length = second .dens-length ∙ sym (first .dens-length);
+        outside = λ k out. second .outside k out ∙ sym (first .outside k out);
+      }
+
+  -- and where they hold the same there, they are the same.
   pub lists-determined : {base end : ℕ} {nums₀ dens₀ : List ℤ} → Kept base end nums₀ dens₀ nums dens → Kept base end nums₀ dens₀ nums′ dens′ → ((k : ℕ) → base ≤ k → k < end → heldAt nums dens k ≡ heldAt nums′ dens′ k) → (nums ≡ nums′) × (dens ≡ dens′)
   lists-determined {base} {end} first second inside = (
     ext-getD (pos 0) nums nums′ (first .nums-length ∙ sym (second .nums-length)) (λ k below. ap (λ f. f .num) (everywhere k)),

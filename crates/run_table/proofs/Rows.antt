@@ -2,12 +2,12 @@
 -- Main results: `tab-listed`, `making-starts`, `making-goes-on`, `making-ends`, `making-stops`. Assume nothing.
 use mathlib.Core.Path.{_≡_, refl, sym, ap, _∙_, subst}
 use mathlib.Core.Logic.{_⊎_, inl, inr, _≢_}
-use mathlib.Core.List.{List, [], _∷_}
-use Prim.Native.Nat.{ℕ, zero, suc, _+_, _*_, _≤_, _<_}
+use mathlib.Core.List.{List}
+use Prim.Native.Nat.{ℕ, zero, suc, _+_, _≤_, _<_}
 use native.Mathlib.Nat.{add-zero, add-suc, suc-add, zero-add}
-use native.Mathlib.Decide.{ℕ-discrete, decLt}
+use native.Mathlib.Decide.{ℕ-discrete}
 use native.Mathlib.Omega.{arith}
-use lib.ListN.{length, getD, set, length-set}
+use lib.ListN.{length, set, length-set}
 use lib.Seq.{getD-set-same, getD-set-other}
 use lib.IntN.{ℤ, pos}
 use Rattle.fraction.specs.declared.Fraction.{Fraction}
@@ -16,10 +16,9 @@ use Rattle.fraction.specs.Made.{Made, made, stopped, _>>=_, tab}
 use Rattle.fraction.proofs.Making.{tab-stopped}
 use Rattle.fraction_reduce.specs.Values.{Good}
 use Rattle.rules_run.specs.Row.{COLUMNS, row}
-use Rattle.run_table.specs.declared.Step.{Step}
 use Rattle.run_table.specs.declared.Step.the-variants.{Done, Refused}
-use Rattle.run_table.specs.Held.{heldAt, listed, rowAt, SoundTo, finished}
-use Rattle.run_table.specs.Loop.{Kept, Making, RowMade}
+use Rattle.run_table.specs.Held.{heldAt, listed, rowAt, SoundTo, stepped}
+use Rattle.run_table.specs.Loop.{Making, RowMade}
 
 -- A list each of whose members is made is made of them.
 pub tab-listed {ℓ} : {R : Type 0} {A : Type ℓ} (g : ℕ → Made R A) (f : ℕ → A) (count from : ℕ) → ((i : ℕ) → i < count → g (from + i) ≡ made (f (from + i))) → tab count from g ≡ made (listed count from f)
@@ -85,7 +84,7 @@ module _ (g : ℕ → Made ℕ ℚ) (base m : ℕ) (nums₀ dens₀ : List ℤ) 
 
   -- All columns are made: the row is.
   pub making-ends : {nums dens : List ℤ} → Making g base m COLUMNS nums₀ dens₀ nums dens → RowMade g base m Done nums₀ dens₀ nums dens
-  unfolding row rowAt finished
+  unfolding row rowAt stepped
   making-ends {nums} {dens} making =
       record {
         ends = tab-listed g (λ c. value (heldAt nums dens (base + c))) COLUMNS 0 (λ i below. rw zero-add (making .made-below i below));
@@ -95,7 +94,7 @@ module _ (g : ℕ → Made ℕ ℚ) (base m : ℕ) (nums₀ dens₀ : List ℤ) 
 
   -- The rule refuses a column: it refuses the row.
   pub making-stops : {nums dens : List ℤ} (j number : ℕ) → j < COLUMNS → g j ≡ stopped number → Making g base m j nums₀ dens₀ nums dens → RowMade g base m (Refused number) nums₀ dens₀ nums dens
-  unfolding row finished
+  unfolding row stepped
   making-stops {nums} {dens} j number below stops making =
       record {
         ends = tab-stopped g COLUMNS 0 j number below (λ c h. (value (heldAt nums dens (base + c)), rw zero-add (making .made-below c h))) (rw zero-add stops);

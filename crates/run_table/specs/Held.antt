@@ -1,6 +1,5 @@
 -- The table as the two lent lists hold it.
--- Main definitions: `heldAt`, `rowAt`, `tableAt`, `SoundTo`, `finished`. Assumes nothing.
-use mathlib.Core.Path.{_≡_}
+-- Main definitions: `heldAt`, `rowAt`, `tableAt`, `SoundTo`, `stepped`. Assumes nothing.
 use mathlib.Core.List.{List, [], _∷_}
 use Prim.Native.Nat.{ℕ, zero, suc, _+_, _*_, _<_}
 use lib.ListN.{getD}
@@ -35,6 +34,6 @@ pub record SoundTo (m : ℕ) (nums dens : List ℤ) : Type 0 where
   pub good : (k : ℕ) → k < m → Good (heldAt nums dens k)
 
 -- what a step that writes into the lists makes: what they hold then, or the number of the refusal
-unfoldable pub finished {ℓ} : {A : Type ℓ} → Step → A → Made ℕ A
-finished Done a = made a
-finished (Refused number) a = stopped number
+unfoldable pub stepped {ℓ} : {A : Type ℓ} → Step → A → Made ℕ A
+stepped Done a = made a
+stepped (Refused number) a = stopped number

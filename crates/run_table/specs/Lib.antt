@@ -1,7 +1,5 @@
-pub mod Calls
+pub mod Notes
 pub mod Held
-pub mod Lists
 pub mod Loop
-pub mod Reached
-pub mod Sparse
+pub mod Sets
 pub mod Work

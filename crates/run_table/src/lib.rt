@@ -1,13 +1,15 @@
-// Fractions in two lists of 32-bit numbers.
+// The table of a run: fractions in two lists of 32-bit numbers, and where the sets of the run stand.
 use fraction::Fraction;
 use rules_problem::TERMS;
 ghost use mathlib.Core.Path.{_≡_};
-ghost use Prim.Native.Nat.{_+_, _*_, _<_, _≤_};
+ghost use Prim.Native.Nat.{_+_, _*_, _<_};
 ghost use lib.ListN.{length, set};
 ghost use Rattle.run_table.specs.Held.{heldAt};
 
-// The sets of a run stand in one list: the columns of row t at t, then the lookups that use t, then the lookups before t of the
-// same function; then those that closing has to look at again, and last those that it has not merged with one before them.
+// The sets of a run stand in one list. At t the columns in which row t may hold something else than 0; then for each t the lookups that
+// t is an input of, and for each t the lookups before t of the same function; then the pending lookups, which closing has to look at again,
+// and last the open ones, those that it has not merged with one before them. What each has to hold whenever a step is over is the
+// record `Serving` of specs/Work.antt.
 pub const USERS: usize = TERMS;
 
 pub const EARLIER: usize = 2 * TERMS;

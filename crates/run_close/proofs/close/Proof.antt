@@ -1,12 +1,11 @@
 -- `run_close::close` meets its contract. Assumes nothing.
 use borrow.Author.Needs.{needs}
-use mathlib.Core.Path.{_≡_, refl, sym, _∙_}
-use mathlib.Core.List.{List}
-use Prim.Native.Nat.{ℕ, _-_}
+use mathlib.Core.Path.{_≡_, sym}
+use Prim.Native.Nat.{_-_}
 use native.Mathlib.Omega.{arith}
-use lib.ListN.{length, length-set}
-use Rattle.run_table.specs.Sparse.{pendingOf, openOf}
-use Rattle.run_table.specs.Work.{Work, lent}
+use lib.ListN.{length}
+use Rattle.run_table.specs.Sets.{pendingOf, openOf}
+use Rattle.run_table.specs.Work.{lent}
 use Rattle.run_merge.specs.Contract.{leftBy}
 use Rattle.run_due_pair.specs.Contract.{waitingBy}
 use Rattle.run_close.proofs.Turns.{Closing, Turned, closing-idle, closing-starts, closing-ends, closing-searches, closing-over, pair-below, closing-merges, closing-merged}
@@ -58,6 +57,9 @@ woke f = search
 abbrev head : Woke → Head
 head w = search
 
+abbrev turn : Woke → tie.In-loop Inv-loop μ-loop
+turn w = search
+
 abbrev start : Head → Start
 start h = search
 
@@ -83,7 +85,7 @@ wake-requires : tie.Need-wake-requires Inv-loop μ-loop
 wake-requires c κs =
     let h : Head = search in
     let closing = h .loop .inv in
-    let rows = closing .ready .rows in
+    let rows = closing .serving .rows in
     search needs
 
 slice-aggregate-find-due : tie.Need-slice-aggregate-find-due Inv-loop μ-loop
@@ -127,7 +129,7 @@ without-requires c κs =
     let w = woke f in
     let h = head w in
     let order = pair-below (h .loop .inv) (w .wake .ensures) (f .find-due .ensures) (search needs) (l .left .given .1) 0 in
-    omega (arith, h .loop .inv .ready .rows .few)
+    omega (arith, h .loop .inv .serving .rows .few)
 
 slice-write-sets : tie.Need-slice-write-sets Inv-loop μ-loop
 slice-write-sets c = search needs
@@ -161,10 +163,10 @@ enum-told-2 : tie.Need-enum-told-2 Inv-loop μ-loop
 enum-told-2 c = search needs
 
 sub-turns : tie.Need-sub-turns Inv-loop μ-loop
-sub-turns c = search needs
+sub-turns c = let m : Merging = search in let some-left = turn (woke (searched (paired (shut m)))) .loop-test .taken in search needs
 
 loop-less : tie.Need-loop-less Inv-loop μ-loop
-loop-less c = search needs
+loop-less c = let m : Merging = search in let some-left = turn (woke (searched (paired (shut m)))) .loop-test .taken in search needs
 
 loop-again : tie.Need-loop-again Inv-loop μ-loop
 loop-again c = let m : Merging = search in turned m .same (c .enum-told2 .given .1)
@@ -179,10 +181,10 @@ add-count c =
     record { fits = omega (arith, h .loop .inv .counted, start h .pre) }
 
 sub-turns-2 : tie.Need-sub-turns-2 Inv-loop μ-loop
-sub-turns-2 c = search needs
+sub-turns-2 c = let m : Merging = search in let some-left = turn (woke (searched (paired (shut m)))) .loop-test .taken in search needs
 
 loop-less-2 : tie.Need-loop-less-2 Inv-loop μ-loop
-loop-less-2 c = search needs
+loop-less-2 c = let m : Merging = search in let some-left = turn (woke (searched (paired (shut m)))) .loop-test .taken in search needs
 
 loop-again-2 : tie.Need-loop-again-2 Inv-loop μ-loop
 loop-again-2 c = let m : Merging = search in turned m .more (c .enum-told3 .given .1)

@@ -1,6 +1,6 @@
 -- `run_due_pair::open_waiting` meets its contract. Assumes nothing.
 use borrow.Author.Needs.{needs}
-use Rattle.run_table.specs.Sparse.{openOf}
+use Rattle.run_table.specs.Sets.{openOf}
 use Rattle.run_due_pair.proofs.open_waiting.Statement.{statement}
 use Rattle.run_due_pair.proofs.open_waiting.Tie as tie
 
@@ -18,7 +18,7 @@ common-requires c κs = search needs
 
 returns : tie.Need-returns
 unfolding openOf
-returns c = c .common .ensures
+returns c = record { inside = c .common .ensures }
 
 pub open-waiting-spec : {M : Type 1} → statement M
 open-waiting-spec = tie.close (tie.spec mul-common shared-slice-read-common shared-slice-read-common-2 common-requires returns)

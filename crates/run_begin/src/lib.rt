@@ -19,7 +19,11 @@ pub fn begin(
     ensures { λ r. ⌜ Begins (now (bytes .entry)) n r (now (heads .entry)) (now (inputs .entry)) (now (heads .exit)) (now (inputs .exit)) (entered nums dens sets) (leaving nums dens sets) ⌝ }
 {
     match run_build::build(bytes, n, nums, dens, heads, inputs, sets) {
-        Step::Done => run_progress::placed(0, run_close::close(nums, dens, n, heads, inputs, sets, 0), 65),
+        Step::Done => run_progress::placed(
+            0,
+            run_close::close(nums, dens, n, heads, inputs, sets, 0),
+            65,
+        ),
         Step::Refused(number) => Ran::Ended(Answer::Refused {
             number: number,
             place: 0,

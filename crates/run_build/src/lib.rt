@@ -4,8 +4,8 @@ mod links;
 
 use crate::call::note_call;
 use crate::links::note_links;
-use run_build_row::build_term;
 use record_items::term_at;
+use run_build_row::build_term;
 use run_table::PENDING;
 use run_table::Step;
 ghost use mathlib.Core.Path.{_≡_};

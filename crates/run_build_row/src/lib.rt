@@ -1,6 +1,6 @@
 // The row of one term, built from the rows before it.
-use fraction_reduce::Made;
 use fraction::Fraction;
+use fraction_reduce::Made;
 use rules_problem::COLUMNS;
 use rules_problem::Kind;
 use rules_problem::TERMS;
@@ -42,7 +42,10 @@ fn built_column(kind: Kind, t: usize, c: usize, nums: &[i32], dens: &[i32]) -> M
     ensures { λ r. ⌜ Answers r (builtColumn (tableAt t (now (nums .entry)) (now (dens .entry))) t kind c) ⌝ }
 {
     match kind {
-        Kind::Gain { factor, input } => fraction_product::product(factor, cell(nums, dens, input, c)),
+        Kind::Gain { factor, input } => fraction_product::product(
+            factor,
+            cell(nums, dens, input, c),
+        ),
         Kind::Sum { left, right } => {
             fraction_sum::sum(cell(nums, dens, left, c), cell(nums, dens, right, c))
         }

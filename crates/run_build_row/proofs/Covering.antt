@@ -18,8 +18,8 @@ use Rattle.rules_problem.specs.declared.Kind.{Kind}
 use Rattle.rules_problem.specs.declared.Kind.the-variants.{Variable, Constant, Gain, Sum, Difference, Lookup1, Lookup2, Lookup3}
 use Rattle.rules_problem.proofs.Kind.{the-type}
 use Rattle.rules_run.specs.Row.{TERMS}
-use Rattle.run_table.specs.Sparse.{columnsOf}
-use Rattle.run_build_row.specs.Contract.{SETS, Coverable}
+use Rattle.run_table.specs.Sparse.{SETS, columnsOf}
+use Rattle.run_build_row.specs.Contract.{Coverable}
 use Rattle.run_build_row.specs.Sparse.{mayHold}
 
 -- The set of an earlier term is there.

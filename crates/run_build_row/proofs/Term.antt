@@ -4,7 +4,7 @@ use mathlib.Core.Path.{_≡_}
 use mathlib.Core.List.{List}
 use Prim.Native.Nat.{ℕ, _*_}
 use native.Mathlib.Omega.{arith}
-use lib.ListN.{set}
+use lib.ListN.{set, length-set}
 use lib.IntN.{ℤ}
 use lib.Seq.{getD-set-other}
 use Rattle.set_members.specs.Sets.{holds}
@@ -50,5 +50,6 @@ module _ {kind lowered : Kind} {t : ℕ} {nums dens : List ℤ} {sets : List ℕ
         record {
           built = lowered-built lowers built;
           sparse = sparse-more t columns (omega (arith, asked .rows .size)) (built .kept) (asked .rows .sparse) (makes .within);
+          size = length-set sets t columns;
           others = λ k other. getD-set-other sets t k columns 0 other;
         }

@@ -4,7 +4,7 @@ use mathlib.Core.Path.{_≡_, sym, _∙_}
 use mathlib.Core.List.{List}
 use Prim.Native.Nat.{ℕ, _+_, _-_, _*_}
 use native.Mathlib.Omega.{arith}
-use lib.ListN.{getD}
+use lib.ListN.{length, getD}
 use denote.Ref.{now}
 use lib.IntN.{ℤ}
 use Rattle.unique.specs.Twice.{Twice}
@@ -34,9 +34,12 @@ row-built-same {t = t} {x} {y} {nums = nums} {dens} {nums′} {dens′} first se
     }
 
 -- How it ends is fixed, and both lists where it is done. Where it is refused, so is every place but those of row t, which may hold
--- anything: the run ends there, and its caller clears them. So is every set but the one noted for the row, of which only that it has
+-- anything: the run ends there, and its caller clears them. So are the sets but for the one noted for the row, of which only that it has
 -- room for the row's columns is promised. Said of the contract itself: of what the toolchain reads from it.
 pub build-term-unique : Twice ps r Post λ κs (term, (t, _)) x y (_, (_, (nums, (dens, (sets, _))))) (_, (_, (nums′, (dens′, (sets′, _))))).
-    SameEnd (COLUMNS * t) (COLUMNS * t + COLUMNS) x y (lists nums dens) (lists nums′ dens′) × ((k : ℕ) → (k ≡ t → ⊥) → getD (now sets) k 0 ≡ getD (now sets′) k 0)
-build-term-unique κs a x y end end′ first second =
-    (row-built-same (first .built) (second .built), λ k other. first .others k other ∙ sym (second .others k other))
+    SameEnd (COLUMNS * t) (COLUMNS * t + COLUMNS) x y (lists nums dens) (lists nums′ dens′) × (length (now sets) ≡ length (now sets′)) × ((k : ℕ) → (k ≡ t → ⊥) → getD (now sets) k 0 ≡ getD (now sets′) k 0)
+build-term-unique κs a x y end end′ first second = (
+  row-built-same (first .built) (second .built),
+  first .size ∙ sym (second .size),
+  λ k other. first .others k other ∙ sym (second .others k other),
+)

@@ -1,6 +1,6 @@
 -- What the functions that build the row of one term ask for, and what they ensure. The row is made blank first, and then written from
 -- column to column of a set, outside of which the rule makes 0.
--- Main definitions: `SETS`, `columnBuilt`, `cellAt`, `Room`, `Behind`, `RowBuilt`, `TermBuildable`, `TermBuilt`, and a record for what each of the
+-- Main definitions: `columnBuilt`, `cellAt`, `Room`, `Behind`, `RowBuilt`, `TermBuildable`, `TermBuilt`, and a record for what each of the
 -- other functions asks for or ensures. Assume nothing.
 use mathlib.Core.Path.{_≡_}
 use mathlib.Core.Bool.{true}
@@ -21,14 +21,10 @@ use Rattle.run_table.specs.declared.Step.the-variants.{Done}
 use Rattle.run_table.specs.Held.{heldAt, rowAt, tableAt, SoundTo, finished}
 use Rattle.run_table.specs.Lists.{Lists}
 use Rattle.run_table.specs.Loop.{Kept, RowMade}
-use Rattle.run_table.specs.Sparse.{Within, Sparse}
+use Rattle.run_table.specs.Sparse.{SETS, Within, Sparse}
 use Rattle.run_table.specs.Work.{Work, Rows}
 use Rattle.run_build_row.specs.Buildable.{Written, Holding, Below, Buildable, Combined}
 use Rattle.run_build_row.specs.Sparse.{Covered, Blank}
-
--- how many sets a run keeps beside its rows: three of each term, and two more
-abbrev pub SETS : ℕ
-SETS = 194
 
 -- column c of row t as the rule makes it of the rows before it
 abbrev pub columnBuilt : (kind : Kind) → (t : ℕ) → Lists → (c : ℕ) → Made ℕ ℚ
@@ -127,4 +123,5 @@ pub record TermBuildable (kind : Kind) (t : ℕ) (w : Work) : Type 0 where
 pub record TermBuilt (kind : Kind) (t : ℕ) (step : Step) (old new : Work) : Type 0 where
   pub built : RowBuilt kind t step (old .nums) (old .dens) (new .nums) (new .dens)
   pub sparse : Sparse (t + 1) (new .nums) (new .sets)
+  pub size : length (new .sets) ≡ length (old .sets)
   pub others : (k : ℕ) → (k ≡ t → ⊥) → getD (new .sets) k 0 ≡ getD (old .sets) k 0

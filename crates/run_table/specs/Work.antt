@@ -7,9 +7,9 @@ use lib.ListN.{length}
 use lib.IntN.{ℤ}
 use denote.Ref.{RefT, now}
 use denote.Triple.Both.{Both}
-use Rattle.rules_run.specs.Row.{Table}
+use Rattle.rules_run.specs.Row.{TERMS, COLUMNS, PLACES, Table}
 use Rattle.run_table.specs.Held.{tableAt, SoundTo}
-use Rattle.run_table.specs.Sparse.{Sparse}
+use Rattle.run_table.specs.Sparse.{SETS, Sparse}
 
 pub record Work : Type 0 where
   pub nums : List ℤ
@@ -32,9 +32,9 @@ tableOf n w = tableAt n (w .nums) (w .dens)
 
 -- Rows that a step can work on: there is room for all, the first n are sound, and each row's columns are within its set.
 pub record Rows (n : ℕ) (w : Work) : Type 0 where
-  pub few : n ≤ 64
-  pub nums-fit : 4160 ≤ length (w .nums)
-  pub dens-fit : 4160 ≤ length (w .dens)
-  pub sound : SoundTo (65 * n) (w .nums) (w .dens)
-  pub size : length (w .sets) ≡ 194
+  pub few : n ≤ TERMS
+  pub nums-fit : PLACES ≤ length (w .nums)
+  pub dens-fit : PLACES ≤ length (w .dens)
+  pub sound : SoundTo (COLUMNS * n) (w .nums) (w .dens)
+  pub size : length (w .sets) ≡ SETS
   pub sparse : Sparse n (w .nums) (w .sets)

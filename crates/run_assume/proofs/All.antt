@@ -15,9 +15,8 @@ use Rattle.rules_problem.specs.Pairs.{pairThere}
 use Rattle.record_items.specs.Held.{pairOf}
 use Rattle.rules_problem.proofs.Holding.{sides-made, pairs-count, pair-there}
 use Rattle.rules_run.specs.Run.{byNumber, assume}
-use Rattle.run_table.specs.Work.{Work, tableOf}
+use Rattle.run_table.specs.Work.{Work, tableOf, Resting}
 use Rattle.run_table.proofs.Columns.{kept-itself, kept-then}
-use Rattle.run_close.specs.Ready.{Resting}
 use Rattle.run_close.specs.Contract.{stateOf}
 use Rattle.run_progress.specs.declared.Ran.{Ran}
 use Rattle.run_progress.specs.declared.Ran.the-variants.{Going, Ended}
@@ -35,7 +34,8 @@ sides-below bytes n k sides there =
 -- In the loop, before assumption k: what is left to assume gives what all of them give; only the rows of the terms have changed;
 -- each assumption solved at most 66 unknowns.
 pub record Assuming (bytes : List ℕ) (n m solved : ℕ) (heads inputs : List ℕ) (old : Work) (count k : ℕ) (w : Work) : Type 0 where
-  pub rest : (problem : Problem) → decoded bytes ≡ made problem → assume byNumber (problem .terms) 1 (problem .pairs) (stateOf n old solved) ≡ assume byNumber (problem .terms) k (drop (k - 1) (problem .pairs)) (stateOf n w count)
+  pub rest : (problem : Problem) → decoded bytes ≡ made problem
+      → assume byNumber (problem .terms) 1 (problem .pairs) (stateOf n old solved) ≡ assume byNumber (problem .terms) k (drop (k - 1) (problem .pairs)) (stateOf n w count)
   pub stays : Stays n old w
   pub least : 1 ≤ k
   pub most : k ≤ m + 1
@@ -56,7 +56,7 @@ module _ {bytes : List ℕ} {n m solved : ℕ} {heads inputs : List ℕ} {old : 
       let resting = ready .prepared .resting in
       record {
         rest = λ problem held. refl;
-        stays = record { kept = kept-itself _ _ (old .nums) (old .dens); sound = resting .ready .rows .sound; size = refl };
+        stays = record { kept = kept-itself _ _ (old .nums) (old .dens); sound = resting .rows .sound; size = refl };
         least = omega arith;
         most = omega arith;
         counted = omega (arith, ready .few-solved);
@@ -73,7 +73,7 @@ module _ {bytes : List ℕ} {n m solved : ℕ} {heads inputs : List ℕ} {old : 
               let none-left : drop (k - 1) (problem .pairs) ≡ [] = drop-of-length-le (problem .pairs) {i = k - 1} (omega (arith, ready .pairs, pairs-count bytes problem held)) in
               assuming .rest problem held ∙ ap (λ ps. assume byNumber (problem .terms) k ps (stateOf n w count)) none-left;
           stays = assuming .stays;
-          sparse = assuming .resting .ready .rows .sparse;
+          sparse = assuming .resting .rows .sparse;
         }
 
     module _ (some-left : k ≤ m) (sides : Sides) (there : made (pairOf sides) ≡ pairThere bytes n k) where

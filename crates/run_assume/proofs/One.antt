@@ -9,17 +9,15 @@ use Rattle.fraction.specs.Made.{made, _>>=_, because}
 use Rattle.rules_problem.specs.declared.Term.{Term}
 use Rattle.rules_run.specs.Close as rule
 use Rattle.rules_run.specs.Run.{byNumber, ends}
-use Rattle.run_table.specs.Work.{Work, tableOf}
+use Rattle.run_table.specs.Work.{Work, tableOf, Resting}
 use Rattle.run_table.proofs.Columns.{kept-then}
 use Rattle.run_merge.specs.Outcome.{merged, Unstopped}
 use Rattle.run_merge.specs.Contract.{Hints, Merges}
 use Rattle.run_merge.specs.declared.Merged.{Merged}
 use Rattle.run_merge.specs.declared.Merged.the-variants.{Nothing, Solved, Contradiction as Clash, Refused as Outside}
-use Rattle.run_due_pair.specs.Found.{Lookups}
 use Rattle.run_close.specs.declared.Closed.{Closed}
-use Rattle.run_close.specs.Ready.{Resting}
 use Rattle.run_close.specs.Contract.{stateOf, Closable, Closes}
-use Rattle.run_close.proofs.Sets.{ready-merged, merged-awake}
+use Rattle.run_close.proofs.Sets.{ready-of, serves, ready-merged, merged-awake}
 use Rattle.run_progress.specs.declared.Ran.{Ran}
 use Rattle.run_progress.specs.declared.Ran.the-variants.{Ended}
 use Rattle.run_progress.specs.Ran.{ran, AtMost, WhileGoing, Places}
@@ -37,10 +35,9 @@ module _ {n left right solved : ℕ} {heads inputs : List ℕ} {old mid : Work} 
     rests : Resting n heads inputs mid
     rests =
         let resting = ready .resting in
-        record {
-          ready = ready-merged (resting .ready) (merges .left) hints;
-          awake = record { watched = λ terms lookups. merged-awake left right solved count lookups (resting .ready .noted .below) (resting .ready .linked) (hints .stirred) (merges .answers solved ∙ ap (λ a. merged a solved (tableOf n mid)) is ∙ goes-on) (resting .awake .watched terms lookups) };
-        }
+        serves (ready-merged (ready-of resting) (merges .left) hints) λ terms lookups.
+        merged-awake left right solved count lookups (resting .notes .below) (resting .linked) (hints .stirred)
+        (merges .answers solved ∙ ap (λ a. merged a solved (tableOf n mid)) is ∙ goes-on) (resting .watched terms lookups)
 
     -- Closing gives what the assumption comes to.
     closes-on : {place : ℕ} {c : Closed} {r : Ran} {new : Work} → Closes n count heads inputs c mid new → Places place c (solved + 66) r → Assumes n place left right solved heads inputs r old new

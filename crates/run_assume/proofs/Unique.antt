@@ -1,27 +1,29 @@
 -- The contract of the assumptions leaves one answer.
 -- Main result: `assume-all-unique`. Assumes nothing.
 use mathlib.Core.Path.{_≡_}
-use Prim.Native.Nat.{ℕ}
-use borrow.Fn.Kinds.{Dens, endedOf}
-use contract.Lifetimes.{Lfts}
+use Prim.Native.Nat.{_*_}
 use denote.Ref.{now}
-use denote.Triple.Clauses.{AtExit}
-use Rattle.run_table.specs.Work.{tableOf}
-use Rattle.run_table.proofs.Determined.{table-determined, lists-determined}
-use Rattle.run_progress.specs.declared.Ran.{Ran}
-use Rattle.run_progress.specs.declared.Ran.the-variants.{Going}
+use Rattle.unique.specs.Twice.{TwiceAsked}
+use Rattle.rules_run.specs.Row.{COLUMNS}
+use Rattle.run_table.specs.Loop.{Kept}
+use Rattle.run_table.proofs.Determined.{table-determined, kept-both, lists-determined}
+use Rattle.run_progress.specs.Ran.{WhileGoing}
+use Rattle.run_progress.proofs.Going.{when-going}
 use Rattle.run_progress.proofs.Unique.{ran-determined, going-determined}
 use Rattle.run_assume.proofs.assume_all.Kinds.{ps, r}
 use Rattle.run_assume.proofs.assume_all.Reads.{Pre, Post}
 
--- The answer is fixed, and so are both lists where the run goes on. (Where it ends, the first 65n places may hold anything that is
--- sound.) Said of the contract itself.
-pub assume-all-unique : (κs : Lfts 6) (a : Dens κs ps) (x y : Ran) (end end′ : AtExit (endedOf 6 ps r) κs) → Pre κs a → Post κs a x end → Post κs a y end′ → (x ≡ y) × ((count : ℕ) → x ≡ Going count → (now (end .1 .1 .1 .0) ≡ now (end′ .1 .1 .1 .0)) × (now (end .1 .1 .1 .1 .0) ≡ now (end′ .1 .1 .1 .1 .0)))
-assume-all-unique κs a x y end end′ ready first second =
-    let held = ready .prepared .held in
+-- The answer is fixed; so are the lengths of both lists and every place but those of the n terms, and these too where the run goes on. (Where
+-- it ends, they may hold anything that is sound. The sets are hints, of which any larger ones serve as well.) Said of the contract itself,
+-- as the toolchain reads it.
+pub assume-all-unique : TwiceAsked ps r Pre Post λ κs (bytes, (n, others₀)) x y (_, (_, (_, (nums, (dens, others))))) (_, (_, (_, (nums′, (dens′, others′))))).
+    (x ≡ y) × Kept 0 (COLUMNS * n) (now nums) (now dens) (now nums′) (now dens′) × WhileGoing ((now nums ≡ now nums′) × (now dens ≡ now dens′)) x
+assume-all-unique κs a x y end end′ asked first second =
+    let held = asked .prepared .held in
     let p = first .answers (held .problem) (held .same) in
     let q = second .answers (held .problem) (held .same) in (
       ran-determined x y _ _ p q,
-      λ count going. lists-determined (first .stays .kept) (second .stays .kept) λ k above below.
+      kept-both (first .stays .kept) (second .stays .kept),
+      when-going x λ count going. lists-determined (first .stays .kept) (second .stays .kept) λ k above below.
           table-determined _ (first .stays .sound) (second .stays .sound) (going-determined x y _ _ p q going) k below,
     )

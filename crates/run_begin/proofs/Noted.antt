@@ -18,8 +18,7 @@ use Rattle.record_cursor.proofs.Bits.{field-below}
 use Rattle.rules_problem.proofs.Holding.{terms-count, term-there}
 use Rattle.laws_valuation.specs.Written.{allInputs}
 use Rattle.laws_valuation.proofs.Decoded.{decoded-sound}
-use Rattle.run_table.specs.Calls.{inputOf, Calls}
-use Rattle.run_due_pair.specs.Found.{symbolOf, Lookups, InputsBelow}
+use Rattle.run_table.specs.Calls.{inputOf, symbolOf, Calls, Lookups, InputsBelow}
 use Rattle.run_due_pair.proofs.Heads.{inputs-below}
 
 kind-small : {own : ℕ} {f : Fields} {kind : Kind} → f .symbol < 256 → Recorded own f kind → symbolOf kind < 256

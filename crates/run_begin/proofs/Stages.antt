@@ -17,17 +17,16 @@ use Rattle.rules_run.specs.Close.{close}
 use Rattle.rules_run.specs.Run.{byNumber, ends, begin}
 use Rattle.run_table.specs.declared.Step.{Step}
 use Rattle.run_table.specs.declared.Step.the-variants.{Done, Refused as Stopped}
+use Rattle.run_table.specs.Calls.{Lookups}
 use Rattle.run_table.specs.Held.{tableAt}
-use Rattle.run_table.specs.Work.{Work, tableOf}
+use Rattle.run_table.specs.Work.{Work, tableOf, Resting}
 use Rattle.run_table.proofs.Columns.{kept-then}
 use Rattle.run_table.proofs.Turns.{finished-done, finished-refused}
 use Rattle.run_build.specs.Contract.{Beginnable, Builds}
 use Rattle.run_build.specs.Store.{Store}
 use Rattle.run_build.proofs.Rows.{few-terms}
-use Rattle.run_due_pair.specs.Found.{Lookups}
 use Rattle.run_due_pair.proofs.Woken.{all-awake}
 use Rattle.run_close.specs.declared.Closed.{Closed}
-use Rattle.run_close.specs.Ready.{Resting}
 use Rattle.run_close.specs.Contract.{Closable, Closes}
 use Rattle.run_close.specs.Outcome.{Counted}
 use Rattle.run_progress.specs.declared.Ran.{Ran}
@@ -79,16 +78,16 @@ module _ {bytes : List ℕ} {n : ℕ} {old : Store} {nums dens : List ℤ} {sets
         let rows = standing .rows in
         record {
           resting = record {
-            ready = record {
-              rows = rows;
-              noted = record {
-                heads-fit = omega (arith, builds .notes .heads-length, asked .heads-size);
-                inputs-fit = omega (arith, builds .notes .inputs-length, asked .inputs-size);
-                below = decoded-inputs bytes (held .problem) (held .same) (asked .terms) (standing .calls (held .problem) (held .same));
-              };
-              linked = standing .linked;
+            rows = rows;
+            notes = record {
+              heads-fit = omega (arith, builds .notes .heads-length, asked .heads-size);
+              inputs-fit = omega (arith, builds .notes .inputs-length, asked .inputs-size);
+              below = decoded-inputs bytes (held .problem) (held .same) (asked .terms) (standing .calls (held .problem) (held .same));
+              terms = held .problem .terms;
+              lookups = noted (held .problem) (held .same);
             };
-            awake = record { watched = λ terms lookups. all-awake (tableAt n nums dens) lookups (rows .few) (standing .pending) (standing .opened .inside) };
+            linked = standing .linked;
+            watched = λ terms lookups. all-awake (tableAt n nums dens) lookups (rows .few) (standing .pending) (standing .opened .inside);
           };
           few-solved = omega arith;
         }

@@ -45,7 +45,7 @@ module _ {bytes : List ℕ} {n : ℕ} {x y : Ran} {old new new′ : Store} (held
       let one = going-holds going (first .prepared) in
       let other = going-holds (sym answers-same ∙ going) (second .prepared) in
       let table = going-determined x y (tableOf n (new .work)) (tableOf n (new′ .work)) (first .answers (held .problem) (held .same)) (second .answers (held .problem) (held .same)) going in
-      lists-determined (first .kept) (second .kept) λ k above below. table-determined n (one .resting .ready .rows .sound) (other .resting .ready .rows .sound) table k below
+      lists-determined (first .kept) (second .kept) λ k above below. table-determined n (one .resting .rows .sound) (other .resting .rows .sound) table k below
 
   notes-same : (count : ℕ) → x ≡ Going count → (new .heads ≡ new′ .heads) × (new .inputs ≡ new′ .inputs)
   notes-same count going =

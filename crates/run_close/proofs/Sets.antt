@@ -1,5 +1,5 @@
 -- The sets after a merge, and where lookups are noted pair by pair.
--- Main results: `ready-merged`, `ready-kept`, `ready-woken`, `ready-shut`, `merged-awake`, `shut-watched`, `woken-watched`. Assume nothing.
+-- Main results: `Ready`, `ready-of`, `serves`, `ready-merged`, `ready-kept`, `ready-woken`, `ready-shut`, `merged-awake`, `shut-watched`, `woken-watched`. Assume nothing.
 use mathlib.Core.Path.{_≡_, refl, sym, ap, ap₂, _∙_, subst}
 use mathlib.Core.Logic.{_≢_, _⊎_, inl, inr}
 use mathlib.Core.Bool.{Bool, true, false, not, _&&_, _||_, false≢true, and-eq-true-iff, or-true}
@@ -23,17 +23,29 @@ use Rattle.laws_invariant.proofs.Due.{T-true, Due}
 use Rattle.laws_invariant.proofs.Keeps.{merge-keeps-equal}
 use Rattle.laws_invariant.proofs.Meets.{merge-meets}
 use Rattle.laws_invariant.proofs.Rows.{sameRows-equal}
+use Rattle.run_table.specs.Calls.{Lookups, InputsBelow, Notes}
 use Rattle.run_table.specs.Held.{tableAt}
-use Rattle.run_table.specs.Sparse.{Within, columnsOf, pendingOf, openOf, Linked, Stirred}
-use Rattle.run_due_pair.specs.Found.{Lookups, InputsBelow, Twin, Shut, Waits, Looked, Finds, Watched, Awake}
+use Rattle.run_table.specs.Sparse.{Within, columnsOf, pendingOf, openOf, Linked, Twin, Shut, Waits, Looked, Finds, Watched, Stirred}
+use Rattle.run_table.specs.Work.{Work, withSets, tableOf, Rows, Serving}
 use Rattle.run_due_pair.proofs.Heads.{due-heads}
 use Rattle.run_due_pair.proofs.Twins.{rows-kept, shut-kept}
 use Rattle.run_due_pair.proofs.Woken.{linked-kept, stirred-finds}
-use Rattle.run_table.specs.Work.{Work}
 use Rattle.run_merge.specs.declared.Merged.{Merged}
 use Rattle.run_merge.specs.Contract.{Hints, Left}
-use Rattle.run_close.specs.Ready.{withSets, Ready}
 use Rattle.run_close.specs.Woken.{Woken}
+
+-- What serves whatever is pending or open: the rows, the notes and the links.
+pub record Ready (n : ℕ) (heads inputs : List ℕ) (w : Work) : Type 0 where
+  pub rows : Rows n w
+  pub notes : Notes n heads inputs
+  pub linked : Linked n heads inputs (w .sets)
+
+pub ready-of : {n : ℕ} {heads inputs waiting : List ℕ} {w : Work} → Serving n heads inputs waiting w → Ready n heads inputs w
+ready-of serving = record { rows = serving .rows; notes = serving .notes; linked = serving .linked }
+
+-- With a watch on what is pending and open, the sets serve.
+pub serves : {n : ℕ} {heads inputs waiting : List ℕ} {w : Work} → Ready n heads inputs w → ((terms : List Term) → Lookups terms n heads inputs → Watched waiting terms n (tableOf n w) (w .sets)) → Serving n heads inputs waiting w
+serves ready watched = record { rows = ready .rows; notes = ready .notes; linked = ready .linked; watched = watched }
 
 module _ {n : ℕ} {heads inputs : List ℕ} {w : Work} (ready : Ready n heads inputs w) where
   -- A merge keeps the links, and notes the columns of the rows that it changes.
@@ -43,8 +55,8 @@ module _ {n : ℕ} {heads inputs : List ℕ} {w : Work} (ready : Ready n heads i
       let kept = left .kept in
       record {
         rows = record { few = rows .few; nums-fit = omega arith; dens-fit = omega arith; sound = left .sound; size = hints .stirred .same-length ∙ rows .size; sparse = hints .sparse };
-        noted = ready .noted;
-        linked = linked-kept (rows .few) (ready .noted .below) (λ k low high. hints .stirred .links k low (λ e. omega arith)) (ready .linked);
+        notes = ready .notes;
+        linked = linked-kept (rows .few) (ready .notes .below) (λ k low high. hints .stirred .links k low (λ e. omega arith)) (ready .linked);
       }
 
   -- Whatever is pending or open, the rest stays.
@@ -55,8 +67,8 @@ module _ {n : ℕ} {heads inputs : List ℕ} {w : Work} (ready : Ready n heads i
       let few = rows .few in
       record {
         rows = record { few = few; nums-fit = rows .nums-fit; dens-fit = rows .dens-fit; sound = rows .sound; size = same-length ∙ rows .size; sparse = record { within = λ t below. subst (λ s. Within s (65 * t) (w .nums)) (sym (same t (omega arith))) (rows .sparse .within t below) } };
-        noted = ready .noted;
-        linked = linked-kept few (ready .noted .below) (λ k low high. same k high) (ready .linked);
+        notes = ready .notes;
+        linked = linked-kept few (ready .notes .below) (λ k low high. same k high) (ready .linked);
       }
 
   -- So where pairs are noted, and where a lookup is shut.
@@ -93,7 +105,7 @@ module _ {terms : List Term} {n : ℕ} {heads inputs : List ℕ} {nums dens nums
   unfolding openOf
   same-open = stirred .links 193 (omega arith) (λ e. omega arith)
 
-  pub merged-awake : Awake terms n (tableAt n nums dens) sets → Awake terms n (tableAt n nums′ dens′) sets′
+  pub merged-awake : Watched [] terms n (tableAt n nums dens) sets → Watched [] terms n (tableAt n nums′ dens′) sets′
   merged-awake awake =
       record {
         found = finds-on [] (awake .found);
@@ -124,7 +136,7 @@ module _ {terms : List Term} {n : ℕ} {heads inputs : List ℕ} {nums dens nums
       still i j first below is i-open j-open = looked i j (watched .found i j first below is (was-open i i-open) (was-open j j-open))
 
       merged : Twin terms (tableAt n nums′ dens′) left right
-      merged = record { before = due .before; similar = T-true _ (due .similar); inputs = rows-kept _ _ stay _ _ (sameRows-equal (tableAt n nums dens) _ _ .1 (due .inputs)); own = merge-meets byNumber _ _ left right goes-on }
+      merged = record { order = due .before; similar = T-true _ (due .similar); inputs = rows-kept _ _ stay _ _ (sameRows-equal (tableAt n nums dens) _ _ .1 (due .inputs)); own = merge-meets byNumber _ _ left right goes-on }
 
       by : (j : ℕ) → j < n → (eqb j right ≡ true) ⊎ (holds (openOf sets₁) j ≡ false) → Shut terms (tableAt n nums′ dens′) j
       by j below (inl same) = inr (left, subst (Twin terms (tableAt n nums′ dens′) left) (sym (eqb-same j right same)) merged)

@@ -1,5 +1,5 @@
 -- Closing, turn by turn.
--- Main results: `closing-idle`, `closing-starts`, `closing-ends`, `closing-searches`, `closing-over`, `closing-merges`, `closing-merged`. Assume nothing.
+-- Main results: `closing-idle`, `closing-starts`, `closing-ends`, `closing-searches`, `closing-over`, `pair-below`, `closing-merges`, `closing-merged`. Assume nothing.
 use mathlib.Core.Path.{_≡_, refl, sym, ap, _∙_, subst}
 use mathlib.Core.Logic.{_≢_, inl, inr}
 use mathlib.Core.Bool.{not, _&&_, false≢true}
@@ -19,16 +19,17 @@ use Rattle.rules_run.specs.Merge.{State, Stop, merge}
 use Rattle.rules_run.specs.Close.{due, closeFor, close}
 use Rattle.rules_run.specs.Run.{byNumber}
 use Rattle.laws_invariant.proofs.Due.{due-some}
+use Rattle.run_table.specs.Calls.{Lookups}
 use Rattle.run_table.specs.Loop.{Kept}
-use Rattle.run_table.specs.Sparse.{pendingOf, openOf}
-use Rattle.run_table.specs.Work.{Work, tableOf}
+use Rattle.run_table.specs.Sparse.{PENDING, OPEN, RIGHTS, pendingOf, openOf, Looked, Watched}
+use Rattle.run_table.specs.Work.{Work, withSets, tableOf, Serving, Resting}
 use Rattle.run_table.proofs.Columns.{kept-itself, kept-then}
-use Rattle.run_due_pair.specs.Found.{Lookups, Below, Looked, pairOf}
-use Rattle.run_due_pair.specs.Contract.{Watching, Searchable, FindsDue}
+use Rattle.run_due_pair.specs.Found.{Below, pairOf}
+use Rattle.run_due_pair.specs.Contract.{Searchable, FindsDue}
 use Rattle.run_due_pair.proofs.Passed.{none-waiting}
 use Rattle.run_due_pair.proofs.Woken.{closed-sleeps, pending-awake}
 use Rattle.run_due_pair.specs.declared.Due.{Due}
-use Rattle.run_due_pair.specs.declared.Due.the-variants.{Pair as Found, Closed as NoneDue}
+use Rattle.run_due_pair.specs.declared.Due.the-variants.{Pair as Found, NoneDue}
 use Rattle.run_merge.specs.Outcome.{merged, Unstopped}
 use Rattle.run_merge.specs.Contract.{Mergeable, Hints, Merges}
 use Rattle.run_merge.specs.declared.Merged.{Merged}
@@ -36,21 +37,20 @@ use Rattle.run_merge.specs.declared.Merged.the-variants.{Nothing, Solved, Contr
 use Rattle.run_close.specs.declared.Closed.{Closed}
 use Rattle.run_close.specs.declared.Closed.the-variants.{Going, Contradiction, Refused}
 use Rattle.run_close.specs.Outcome.{closed, Counted, WhileOpen}
-use Rattle.run_close.specs.Ready.{withSets, Ready, Resting}
 use Rattle.run_close.specs.Contract.{stateOf, Closes}
 use Rattle.run_close.specs.Woken.{Woken}
-use Rattle.run_close.proofs.Sets.{ready-merged, ready-kept, ready-woken, ready-shut, shut-watched, woken-watched}
+use Rattle.run_close.proofs.Sets.{Ready, ready-of, serves, ready-merged, ready-kept, ready-woken, ready-shut, shut-watched, woken-watched}
 
 -- In a loop that closes: what is left to do with the lists and the count gives what closing gives; only the rows of the terms have
 -- changed; each unknown solved took a turn; and what has to be looked at waits.
 pub record Closing (n solved : ℕ) (heads inputs : List ℕ) (old : Work) (count turns : ℕ) (w : Work) (waiting : List ℕ) : Type 0 where
-  pub rest : (terms : List Term) → Lookups terms n heads inputs → close byNumber terms (stateOf n old solved) ≡ closeFor turns byNumber terms (stateOf n w count)
+  pub rest : (terms : List Term) → Lookups terms n heads inputs
+      → close byNumber terms (stateOf n old solved) ≡ closeFor turns byNumber terms (stateOf n w count)
   pub kept : Kept 0 (65 * n) (old .nums) (old .dens) (w .nums) (w .dens)
   pub size : length (w .sets) ≡ length (old .sets)
   pub counted : count + turns ≤ solved + n + 1
-  pub ready : Ready n heads inputs w
-  pub watching : Watching n heads inputs waiting w
-  pub sized : length waiting ≡ 65
+  pub serving : Serving n heads inputs waiting w
+  pub sized : length waiting ≡ RIGHTS + 1
 
 -- one turn: what the pair due gives
 turn : (rank : ℕ → ℕ) (terms : List Term) (state : State) (turns : ℕ) (pair : Option Pair) → due terms (state .table) ≡ pair → closeFor (suc turns) rank terms state ≡ elim pair [ none ↦ made state | some p ↦ merge rank (p .left) (p .right) state >>= closeFor turns rank terms ]
@@ -72,15 +72,15 @@ module _ {n : ℕ} (solved : ℕ) {heads inputs : List ℕ} {w : Work} (resting 
   closing-idle asleep =
       record {
         answers = λ terms lookups.
-            turn byNumber terms (stateOf n w solved) (length terms) none (none-waiting (resting .awake .watched terms lookups) (lookups .count) asleep (λ i j waits. false≢true (sym (holds-none i) ∙ waits .left)));
+            turn byNumber terms (stateOf n w solved) (length terms) none (none-waiting (resting .watched terms lookups) (lookups .count) asleep (λ i j waits. false≢true (sym (holds-none i) ∙ waits .left)));
         kept = kept-itself _ _ (w .nums) (w .dens);
-        sound = resting .ready .rows .sound;
+        sound = resting .rows .sound;
         size = refl;
         counted = omega arith;
         resting = resting;
       }
 
-  pub closing-starts : (waiting : List ℕ) → length waiting ≡ 65 → Closing n solved heads inputs w solved (n + 1) w waiting
+  pub closing-starts : (waiting : List ℕ) → length waiting ≡ RIGHTS + 1 → Closing n solved heads inputs w solved (n + 1) w waiting
   unfolding close
   closing-starts waiting sized =
       record {
@@ -88,12 +88,9 @@ module _ {n : ℕ} (solved : ℕ) {heads inputs : List ℕ} {w : Work} (resting 
         kept = kept-itself _ _ (w .nums) (w .dens);
         size = refl;
         counted = omega arith;
-        ready = resting .ready;
-        watching = record {
-          watched = λ terms lookups.
-              let awake = resting .awake .watched terms lookups in
-              record { found = λ i j before below is i-open j-open. by i j (awake .found i j before below is i-open j-open); others = awake .others };
-        };
+        serving = serves (ready-of resting) λ terms lookups.
+            let awake = resting .watched terms lookups in
+            record { found = λ i j before below is i-open j-open. by i j (awake .found i j before below is i-open j-open); others = awake .others };
         sized = sized;
       }
     where
@@ -109,33 +106,29 @@ module _ {n solved : ℕ} {heads inputs : List ℕ} {old : Work} {count turns : 
       let none-left : turns ≡ 0 = omega arith in
       let all : ℕ = 18446744073709551615 in
       let sets = w .sets in
-      let place : 192 < length sets = omega (arith, closing .ready .rows .size) in
+      let place : 192 < length sets = omega (arith, closing .serving .rows .size) in
       let other : (k : ℕ) → k ≢ 192 → getD (set sets 192 all) k 0 ≡ getD sets k 0 = λ k apart. getD-set-other sets 192 k all 0 apart in
       record {
         answers = λ terms lookups. closing .rest terms lookups ∙ rw none-left;
         kept = closing .kept;
-        sound = closing .ready .rows .sound;
+        sound = closing .serving .rows .sound;
         size = length-set sets 192 all ∙ closing .size;
         counted = omega (arith, closing .counted);
-        resting = record {
-          ready = ready-kept (closing .ready) (length-set sets 192 all) (λ k low. other k (λ e. omega arith));
-          awake = record { watched = λ terms lookups. pending-awake (closing .ready .rows .few) (λ k low. ap (λ s. holds s k) (getD-set-same sets 192 all 0 place) ∙ holds-all k low) (λ j below out. closing .watching .watched terms lookups .others j below (ap (λ s. holds s j) (sym (other 193 (λ e. omega arith))) ∙ out)) };
-        };
+        resting = serves (ready-kept (ready-of (closing .serving)) (length-set sets 192 all) (λ k low. other k (λ e. omega arith))) λ terms lookups.
+            pending-awake (closing .serving .rows .few) (λ k low. ap (λ s. holds s k) (getD-set-same sets 192 all 0 place) ∙ holds-all k low) (λ j below out. closing .serving .watched terms lookups .others j below (ap (λ s. holds s j) (sym (other 193 (λ e. omega arith))) ∙ out));
       }
 
   module _ {sets₁ waiting₁ : List ℕ} (woken : Woken n (w .sets) sets₁ waiting waiting₁) where
     served : Ready n heads inputs (withSets w sets₁)
-    served = ready-woken (closing .ready) waiting waiting₁ woken
+    served = ready-woken (ready-of (closing .serving)) waiting waiting₁ woken
 
     -- The pairs wait that are to be compared.
     pub closing-searches : Searchable n heads inputs waiting₁ (withSets w sets₁)
     closing-searches =
         record {
-          rows = served .rows;
-          noted = served .noted;
+          serving = serves served λ terms lookups. woken-watched waiting waiting₁ (closing .serving .rows .few) lookups (closing .serving .linked) woken (closing .serving .watched terms lookups);
           waiting-fit = omega (arith, woken .grown .same-length, closing .sized);
           asleep = woken .asleep;
-          watching = record { watched = λ terms lookups. woken-watched waiting waiting₁ (closing .ready .rows .few) lookups (closing .ready .linked) woken (closing .watching .watched terms lookups) };
         }
 
     module _ {waiting₂ : List ℕ} {found : Due} (finds : FindsDue n heads inputs waiting₂ (withSets w sets₁) found) (some-left : 0 < turns) where
@@ -155,10 +148,10 @@ module _ {n solved : ℕ} {heads inputs : List ℕ} {old : Work} {count turns : 
           record {
             answers = λ terms lookups. step terms lookups none (ap pairOf e);
             kept = closing .kept;
-            sound = closing .ready .rows .sound;
+            sound = closing .serving .rows .sound;
             size = woken .same-length ∙ closing .size;
             counted = omega (arith, closing .counted);
-            resting = record { ready = served; awake = record { watched = λ terms lookups. closed-sleeps (lookups .count) (finds .pair terms lookups ∙ ap pairOf e) (finds .watching .watched terms lookups) } };
+            resting = serves served λ terms lookups. closed-sleeps (lookups .count) (finds .pair terms lookups ∙ ap pairOf e) (finds .serving .watched terms lookups);
           }
 
       -- The pair due is merged, its right side shut.
@@ -171,7 +164,7 @@ module _ {n solved : ℕ} {heads inputs : List ℕ} {old : Work} {count turns : 
         closing-merges = let order = pair-below in record { rows = ready-shut served shut .rows; left = omega arith; right = omega arith }
 
         module _ (told : (k : ℕ) → holds shut k ≡ (not (eqb k right) && holds (openOf sets₁) k))
-            {answer : Merged} {new : Work} (merges : Merges n left right answer (withSets w (set sets₁ 193 shut)) new) (sized : length waiting₂ ≡ 65) where
+            {answer : Merged} {new : Work} (merges : Merges n left right answer (withSets w (set sets₁ 193 shut)) new) (sized : length waiting₂ ≡ RIGHTS + 1) where
           after : (to : Merged) → answer ≡ to → (terms : List Term) → Lookups terms n heads inputs → close byNumber terms (stateOf n old solved) ≡ merged to count (tableOf n new) >>= closeFor (turns - 1) byNumber terms
           unfolding pairOf
           after to is terms lookups =
@@ -193,12 +186,9 @@ module _ {n solved : ℕ} {heads inputs : List ℕ} {old : Work} {count turns : 
                 kept = kept-on;
                 size = size-on;
                 counted = counted;
-                ready = ready-merged (ready-shut served shut) (merges .left) hints;
-                watching = record {
-                  watched = λ terms lookups.
-                      shut-watched left right count more lookups (served .noted .below) (ready-shut served shut .linked) (hints .stirred) (merges .answers count ∙ ap (λ m. merged m count (tableOf n new)) is ∙ goes-on)
-                      waiting₂ shut (served .rows .size) refl told (due-some terms (tableOf n w) (record { left = left; right = right }) (finds .pair terms lookups ∙ ap pairOf is-pair)) (finds .watching .watched terms lookups);
-                };
+                serving = serves (ready-merged (ready-shut served shut) (merges .left) hints) λ terms lookups.
+                    shut-watched left right count more lookups (served .notes .below) (ready-shut served shut .linked) (hints .stirred) (merges .answers count ∙ ap (λ m. merged m count (tableOf n new)) is ∙ goes-on)
+                    waiting₂ shut (served .rows .size) refl told (due-some terms (tableOf n w) (record { left = left; right = right }) (finds .pair terms lookups ∙ ap pairOf is-pair)) (finds .serving .watched terms lookups);
                 sized = sized;
               }
 

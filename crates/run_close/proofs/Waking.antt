@@ -1,5 +1,5 @@
 -- Pairs noted right side by right side.
--- Main results: `grown-itself`, `grown-then`, `right-noted`, `Waking`, `waking-skips`, `waking-more`, `woken-ends`, `woken-idle`. Assume nothing.
+-- Main results: `grown-itself`, `grown-then`, `right-noted`, `none-noted`, `Waking`, `waking-skips`, `waking-more`, `woken-ends`, `woken-idle`. Assume nothing.
 use mathlib.Core.Path.{_≡_, refl, sym, ap, ap₂, _∙_}
 use mathlib.Core.Bool.{true, false, _&&_, _||_, false≢true, and-false, or-true}
 use mathlib.Core.List.{List}
@@ -13,9 +13,8 @@ use lib.Seq.{getD-set-same, getD-set-other}
 use Rattle.set_members.specs.Sets.{holds}
 use Rattle.set_members.proofs.Digits.{holds-none}
 use Rattle.set_extremes.specs.Ends.{Next}
-use Rattle.run_table.specs.Sparse.{earlierOf, pendingOf, openOf}
-use Rattle.run_due_pair.specs.Found.{Waits}
-use Rattle.run_close.specs.Woken.{isWoken, Grown, Woken}
+use Rattle.run_table.specs.Sparse.{earlierOf, pendingOf, openOf, Waits}
+use Rattle.run_close.specs.Woken.{isWoken, Grown, RightWoken, Woken}
 
 pub grown-itself : (waiting : List ℕ) → Grown waiting waiting
 grown-itself waiting = record { same-length = refl; keeps = λ i j below waits. waits }
@@ -35,18 +34,23 @@ module _ (waiting : List ℕ) (j lefts rights woken : ℕ) (place : j < 64) (lon
   at-right : getD after j 0 ≡ lefts
   at-right = getD-set-other (set waiting j lefts) 64 j rights 0 (λ e. omega arith) ∙ getD-set-same waiting j lefts 0 (omega arith)
 
-  pub right-noted : Grown waiting after × ((i : ℕ) → holds woken i ≡ true → Waits after i j)
-  right-noted = (
-    record { same-length = length-set (set waiting j lefts) 64 rights ∙ length-set waiting j lefts; keeps = λ i k below waits. record { left = by i k below waits (ℕ-discrete k j); right = ap (λ s. holds s k) at-last ∙ more k ∙ ap (λ b. eqb k j || b) (waits .right) ∙ or-true (eqb k j) } },
-    λ i inside. record {
+  pub right-noted : {sets : List ℕ} → ((i : ℕ) → holds woken i ≡ isWoken sets i j) → RightWoken j sets waiting after
+  right-noted told = record {
+    grown = record { same-length = length-set (set waiting j lefts) 64 rights ∙ length-set waiting j lefts; keeps = λ i k below waits. record { left = by i k below waits (ℕ-discrete k j); right = ap (λ s. holds s k) at-last ∙ more k ∙ ap (λ b. eqb k j || b) (waits .right) ∙ or-true (eqb k j) } };
+    adds = λ i is. let inside = told i ∙ is in record {
       left = ap (λ s. holds s i) at-right ∙ union i ∙ ap (λ b. holds (getD waiting j 0) i || b) inside ∙ or-true (holds (getD waiting j 0) i);
       right = ap (λ s. holds s j) at-last ∙ more j ∙ ap (λ b. b || holds (getD waiting 64 0) j) (eq-eqb j j refl);
-    },
-  )
+    };
+  }
     where
       by : (i k : ℕ) → k < 64 → Waits waiting i k → Dec (k ≡ j) → holds (getD after k 0) i ≡ true
       by i k below waits (yes here) = ap (λ x. holds (getD after x 0) i) here ∙ ap (λ s. holds s i) at-right ∙ union i ∙ ap (λ b. b || holds woken i) (ap (λ x. holds (getD waiting x 0) i) (sym here) ∙ waits .left)
       by i k below waits (no other) = ap (λ s. holds s i) (getD-set-other (set waiting j lefts) 64 k rights 0 (λ e. omega arith) ∙ getD-set-other waiting j k lefts 0 other) ∙ waits .left
+
+-- Where none is to be compared, nothing is stored.
+pub none-noted : {j woken : ℕ} {sets waiting : List ℕ} → woken ≡ 0 → ((i : ℕ) → holds woken i ≡ isWoken sets i j) → RightWoken j sets waiting waiting
+none-noted {woken = woken} {waiting = waiting} nothing told =
+    record { grown = grown-itself waiting; adds = λ i is. absurd (false≢true (sym (holds-none i) ∙ ap (λ s. holds s i) (sym nothing) ∙ told i ∙ is)) }
 
 -- The open right sides below j are noted.
 pub record Waking (sets waiting₀ : List ℕ) (j : ℕ) (waiting : List ℕ) : Type 0 where
@@ -61,13 +65,13 @@ waking-skips {sets} {waiting₀} {waiting} {from} {on} next waking = record { gr
     by i k before low small inside (yes passed) = waking .adds i k before passed small inside
     by i k before low small inside (no after) = absurd (false≢true (sym (next .none-between k (omega arith) low) ∙ inside))
 
-pub waking-more : {sets waiting₀ waiting waiting′ : List ℕ} (j : ℕ) → Grown waiting waiting′ → ((i : ℕ) → isWoken sets i j ≡ true → Waits waiting′ i j) → Waking sets waiting₀ j waiting → Waking sets waiting₀ (j + 1) waiting′
-waking-more {sets} {waiting₀} {waiting} {waiting′} j grown here waking =
-    record { grown = grown-then (waking .grown) grown; adds = λ i k before low small inside. by i k before low small inside (ℕ-discrete k j) }
+pub waking-more : {sets waiting₀ waiting waiting′ : List ℕ} (j : ℕ) → RightWoken j sets waiting waiting′ → Waking sets waiting₀ j waiting → Waking sets waiting₀ (j + 1) waiting′
+waking-more {sets} {waiting₀} {waiting} {waiting′} j here waking =
+    record { grown = grown-then (waking .grown) (here .grown); adds = λ i k before low small inside. by i k before low small inside (ℕ-discrete k j) }
   where
     by : (i k : ℕ) → i < k → k < j + 1 → k < 64 → holds (openOf sets) k ≡ true → Dec (k ≡ j) → isWoken sets i k ≡ true → Waits waiting′ i k
-    by i k before low small inside (yes now) is = rw now (here i (ap (isWoken sets i) (sym now) ∙ is))
-    by i k before low small inside (no other) is = grown .keeps i k small (waking .adds i k before (omega arith) small inside is)
+    by i k before low small inside (yes now) is = rw now (here .adds i (ap (isWoken sets i) (sym now) ∙ is))
+    by i k before low small inside (no other) is = here .grown .keeps i k small (waking .adds i k before (omega arith) small inside is)
 
 -- All are noted, and none is pending any more.
 pub woken-ends : {sets waiting₀ waiting : List ℕ} (n : ℕ) {end : ℕ} → n ≤ end → n ≤ 64 → 192 < length sets → Waking sets waiting₀ end waiting → Woken n sets (set sets 192 0) waiting₀ waiting

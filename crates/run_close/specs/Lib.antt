@@ -1,4 +1,3 @@
 pub mod Contract
 pub mod Outcome
-pub mod Ready
 pub mod Woken

@@ -42,7 +42,7 @@ pub fn close(
     while 0 < turns {
         wake(n, sets, &mut waiting);
         match run_due_pair::find_due(nums, dens, n, heads, inputs, sets, &mut waiting) {
-            Due::Closed => return Closed::Going(count),
+            Due::NoneDue => return Closed::Going(count),
             Due::Pair { left, right } => {
                 let open = set_members::without(sets[OPEN], right);
                 sets[OPEN] = open;

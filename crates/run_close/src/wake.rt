@@ -4,16 +4,16 @@ use run_table::EARLIER;
 use run_table::OPEN;
 use run_table::PENDING;
 ghost use mathlib.Core.Path.{_≡_};
-ghost use mathlib.Core.Bool.{true};
 ghost use Prim.Native.Nat.{ℕ, _<_, _≤_};
 ghost use lib.ListN.{length};
 ghost use Rattle.set_members.specs.Sets.{holds};
-ghost use Rattle.run_due_pair.specs.Found.{Waits};
-ghost use Rattle.run_close.specs.Woken.{isWoken, Grown, Woken};
+ghost use Rattle.rules_run.specs.Row.{TERMS};
+ghost use Rattle.run_table.specs.Sparse.{SETS, RIGHTS};
+ghost use Rattle.run_close.specs.Woken.{isWoken, RightWoken, Woken};
 
 // The open lookups before j that j is compared with: those of its function, all of them if j is pending, else those that are.
 fn candidates(sets: &[u64], j: usize) -> u64
-    requires { ⌜ (j < 64) × (194 ≤ length (now sets)) ⌝ }
+    requires { ⌜ (j < TERMS) × (SETS ≤ length (now sets)) ⌝ }
     ensures { λ r. ⌜ ((i : ℕ) → holds r i ≡ isWoken (now (sets .entry)) i j) ⌝ }
 {
     let earlier = set_members::common(sets[EARLIER + j], sets[OPEN]);
@@ -26,9 +26,8 @@ fn candidates(sets: &[u64], j: usize) -> u64
 
 // Of right side j, every pair with a pending side waits from now on.
 fn wake_right(sets: &[u64], waiting: &mut [u64], j: usize)
-    requires { ⌜ (j < 64) × (194 ≤ length (now sets)) × (65 ≤ length (now waiting)) ⌝ }
-    ensures { λ r. ⌜ Grown (now (waiting .entry)) (now (waiting .exit)) ⌝ }
-    ensures { λ r. ⌜ ((i : ℕ) → isWoken (now (sets .entry)) i j ≡ true → Waits (now (waiting .exit)) i j) ⌝ }
+    requires { ⌜ (j < TERMS) × (SETS ≤ length (now sets)) × (RIGHTS < length (now waiting)) ⌝ }
+    ensures { λ r. ⌜ RightWoken j (now (sets .entry)) (now (waiting .entry)) (now (waiting .exit)) ⌝ }
 {
     let woken = candidates(sets, j);
     if woken == 0 {
@@ -42,7 +41,7 @@ fn wake_right(sets: &[u64], waiting: &mut [u64], j: usize)
 
 // Every pair of open lookups with a pending side waits from now on.
 pub(crate) fn wake(n: usize, sets: &mut [u64], waiting: &mut [u64])
-    requires { ⌜ (n ≤ 64) × (194 ≤ length (now sets)) × (65 ≤ length (now waiting)) ⌝ }
+    requires { ⌜ (n ≤ TERMS) × (SETS ≤ length (now sets)) × (RIGHTS < length (now waiting)) ⌝ }
     ensures { λ r. ⌜ Woken n (now (sets .entry)) (now (sets .exit)) (now (waiting .entry)) (now (waiting .exit)) ⌝ }
 {
     if sets[PENDING] == 0 {

@@ -15,9 +15,9 @@ use Rattle.rules_problem.specs.declared.Term.{Term}
 use Rattle.rules_problem.specs.Lookup.{Call, callOf, inputsOf, sameFunction, alike, kindAt}
 use Rattle.rules_run.specs.Row.{Table, sameRow}
 use Rattle.rules_run.specs.Close.{sameRows, isDue}
-use Rattle.run_table.specs.Calls.{headOf, inputOf, Calls}
+use Rattle.run_table.specs.Calls.{headOf, inputOf, Calls, symbolOf, Lookups, InputsBelow}
 use Rattle.run_equal_rows.proofs.Equal.{row-itself}
-use Rattle.run_due_pair.specs.Found.{symbolOf, Lookups, InputsBelow, sameInput, sameInputs}
+use Rattle.run_due_pair.specs.Found.{sameInput, sameInputs}
 
 -- of what `callOf` gives: the head, the symbol, the inputs
 abbrev headBy : Option Call → ℕ

@@ -17,8 +17,8 @@ use Rattle.rules_run.specs.Row.{Table}
 use Rattle.rules_run.specs.Close.{isDue, due}
 use Rattle.laws_invariant.proofs.Due.{first-none}
 use Rattle.laws_invariant.proofs.Pivot.{last-or-before}
-use Rattle.run_table.specs.Sparse.{pendingOf, openOf}
-use Rattle.run_due_pair.specs.Found.{pairFor, leftFor, pairAmong, leftAmong, Shut, Waits, Passed, Looked, Watched}
+use Rattle.run_table.specs.Sparse.{pendingOf, openOf, Shut, Waits, Looked, Watched}
+use Rattle.run_due_pair.specs.Found.{pairFor, leftFor, pairAmong, leftAmong, RightPassed}
 use Rattle.run_due_pair.proofs.Search.{first-agrees, first-nowhere, pair-given, pair-none, among-searched, due-searched}
 use Rattle.run_due_pair.proofs.Twins.{twin-left, twin-right, due-calls}
 
@@ -63,7 +63,7 @@ module _ {waiting : List ℕ} {terms : List Term} {n : ℕ} {table : Table} {set
       -- a pair with a shut side is not due: a twin would make one due that comes first
       left-shut : (i : ℕ) → ((k : ℕ) → k < i → pairFor terms table j k ≡ none) → isDue terms table i j ≡ true → Shut terms table i → ⊥
       left-shut i none-yet is (inl no-lookup) = due-calls terms table i j is .0 no-lookup
-      left-shut i none-yet is (inr (k, twin)) = pair-none terms table k j (twin-left terms table j twin is) (none-yet k (twin .before))
+      left-shut i none-yet is (inr (k, twin)) = pair-none terms table k j (twin-left terms table j twin is) (none-yet k (twin .order))
 
       right-shut : (i : ℕ) → i < j → isDue terms table i j ≡ true → Shut terms table j → ⊥
       right-shut i before is (inl no-lookup) = due-calls terms table i j is .1 no-lookup
@@ -102,7 +102,7 @@ module _ {waiting : List ℕ} {terms : List Term} {n : ℕ} {table : Table} {set
       by inside (no later) passed = idle-right asleep on inside (idle on (omega arith) (omega arith)) (λ k low. passed k low (omega arith))
 
   -- A right side with no pair due need not wait.
-  pub watched-passed : {waiting′ : List ℕ} (j : ℕ) → n ≤ 64 → Passed j waiting waiting′ → leftFor terms table j ≡ none → Watched waiting′ terms n table sets
+  pub watched-passed : {waiting′ : List ℕ} (j : ℕ) → n ≤ 64 → RightPassed j waiting waiting′ → leftFor terms table j ≡ none → Watched waiting′ terms n table sets
   watched-passed {waiting′} j few passed nothing =
       record { found = λ i k before below is left right. by i k before below is (ℕ-discrete k j) (watched .found i k before below is left right); others = watched .others }
     where

@@ -12,9 +12,8 @@ use Rattle.rules_problem.specs.declared.Kind.the-variants.{Variable, Lookup1}
 use Rattle.rules_problem.specs.declared.Term.{Term}
 use Rattle.rules_problem.specs.Lookup.{callOf, inputsOf, kindAt}
 use Rattle.rules_run.specs.Row.{Table}
-use Rattle.run_table.specs.Calls.{headOf, inputOf, Calls}
-use Rattle.run_table.specs.Sparse.{usersOf, earlierOf, pendingOf, openOf, Linked}
-use Rattle.run_due_pair.specs.Found.{symbolOf, Lookups, InputsBelow, Awake}
+use Rattle.run_table.specs.Calls.{headOf, inputOf, Calls, symbolOf, Lookups, InputsBelow}
+use Rattle.run_table.specs.Sparse.{SETS, usersOf, earlierOf, pendingOf, openOf, Linked, Watched}
 use Rattle.run_due_pair.proofs.Heads.{inputs-below}
 use Rattle.run_due_pair.proofs.Woken.{all-awake}
 
@@ -77,6 +76,6 @@ shown-linked =
       earlier = λ i j before below lookup one. holds-each (128 + j) i (omega arith) (omega arith);
     }
 
-pub shown-awake : (table : Table) → Awake terms 3 table sets
+pub shown-awake : (table : Table) → Watched [] terms 3 table sets
 unfolding pendingOf openOf
 shown-awake table = all-awake table shown-lookups (omega arith) (λ k below. holds-each 192 k (omega arith) below) (λ j below lookup. holds-each 193 j (omega arith) (omega arith))

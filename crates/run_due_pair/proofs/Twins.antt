@@ -17,7 +17,7 @@ use Rattle.rules_problem.specs.Lookup.{Call, callOf, inputsOf, sameFunction, al
 use Rattle.rules_run.specs.Row.{Table, sameRow}
 use Rattle.rules_run.specs.Close.{sameRows, isDue}
 use Rattle.laws_invariant.proofs.Rows.{sameRow-equal}
-use Rattle.run_due_pair.specs.Found.{Twin, Shut}
+use Rattle.run_table.specs.Sparse.{Twin, Shut}
 
 -- Lookups of one function: both ways, and one after another.
 function-back : (f g : Option Call) → sameFunction f g ≡ true → sameFunction g f ≡ true
@@ -95,7 +95,7 @@ rows-kept table after stay (t ∷ ts) (u ∷ us) e =
 -- Twins stay twins, where equal rows stay equal.
 pub twin-kept : {terms : List Term} {table after : Table} → ((t u : ℕ) → sameRow table t u ≡ true → sameRow after t u ≡ true) → {i j : ℕ} → Twin terms table i j → Twin terms after i j
 twin-kept {table = table} {after} stay twin =
-    record { before = twin .before; similar = twin .similar; inputs = rows-kept table after stay _ _ (twin .inputs); own = stay _ _ (twin .own) }
+    record { order = twin .order; similar = twin .similar; inputs = rows-kept table after stay _ _ (twin .inputs); own = stay _ _ (twin .own) }
 
 pub shut-kept : {terms : List Term} {table after : Table} → ((t u : ℕ) → sameRow table t u ≡ true → sameRow after t u ≡ true) → {j : ℕ} → Shut terms table j → Shut terms after j
 shut-kept stay (inl no-lookup) = inl no-lookup
@@ -161,6 +161,6 @@ module _ (terms : List Term) (table : Table) where
       back-is = due-made k i (alike-then k j i (parts .0) (alike-back i j (twin .similar))) (rows-then table _ _ _ (parts .1) (rows-back table _ _ (twin .inputs))) (apart-back table i k apart)
 
       by : Dec (k < i) → Dec (i < k) → (a : ℕ) × (b : ℕ) × (a < b) × (b < j) × (isDue terms table a b ≡ true)
-      by (yes left) _ = (k, i, left, twin .before, back-is)
+      by (yes left) _ = (k, i, left, twin .order, back-is)
       by (no _) (yes right) = (i, k, right, before, twin-is)
       by (no above) (no below) = let same : k ≡ i = omega arith in absurd (false≢true (sym (parts .2) ∙ ap (λ x. sameRow table x j) same ∙ twin .own))

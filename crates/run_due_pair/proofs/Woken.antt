@@ -4,7 +4,7 @@
 use mathlib.Core.Path.{_≡_, refl, sym, ap, ap₂, _∙_}
 use mathlib.Core.Logic.{_⊎_, inl, inr}
 use mathlib.Core.Bool.{Bool, true, false, not, _&&_, false≢true, and-eq-true-iff}
-use mathlib.Core.List.{List}
+use mathlib.Core.List.{List, []}
 use mathlib.Core.Option.{none}
 use Prim.Native.Nat.{ℕ, _+_, _*_, _<_, _≤_}
 use native.Mathlib.Decide.{ℕ-discrete}
@@ -19,23 +19,24 @@ use Rattle.rules_run.specs.Row.{Table, COLUMNS, sameTo, sameRow}
 use Rattle.rules_run.specs.Close.{isDue, due}
 use Rattle.laws_invariant.proofs.Due.{none-due}
 use Rattle.run_table.specs.Held.{rowAt, tableAt}
-use Rattle.run_table.specs.Sparse.{usersOf, pendingOf, openOf, Linked, Stirred}
+use Rattle.run_table.specs.Sparse.{usersOf, pendingOf, openOf, Linked, Stirred, Shut, Looked, Finds, Watched}
 use Rattle.run_table.proofs.Linked.{linked-same}
+use Rattle.run_table.specs.Calls.{Lookups, InputsBelow}
 use Rattle.run_equal_rows.proofs.Equal.{same-rows}
-use Rattle.run_due_pair.specs.Found.{Lookups, InputsBelow, sameInput, sameInputs, Shut, Looked, Finds, Watched, Awake}
+use Rattle.run_due_pair.specs.Found.{sameInput, sameInputs}
 use Rattle.run_due_pair.proofs.Heads.{no-call, due-alike, alike-due, due-heads}
 
 -- Where no pair is due, nothing has to wait.
-pub closed-sleeps : {waiting : List ℕ} {terms : List Term} {n : ℕ} {table : Table} {sets : List ℕ} → length terms ≡ n → due terms table ≡ none → Watched waiting terms n table sets → Awake terms n table sets
+pub closed-sleeps : {waiting : List ℕ} {terms : List Term} {n : ℕ} {table : Table} {sets : List ℕ} → length terms ≡ n → due terms table ≡ none → Watched waiting terms n table sets → Watched [] terms n table sets
 closed-sleeps {terms = terms} {table = table} count closed watched =
     record { found = λ i j before below is left right. absurd (false≢true (sym (none-due terms table closed i j before (omega arith)) ∙ is)); others = watched .others }
 
 -- Where every lookup is pending, both sides of a pair are.
-pub pending-awake : {terms : List Term} {n : ℕ} {table : Table} {sets : List ℕ} → n ≤ 64 → ((k : ℕ) → k < 64 → holds (pendingOf sets) k ≡ true) → ((j : ℕ) → j < n → holds (openOf sets) j ≡ false → Shut terms table j) → Awake terms n table sets
+pub pending-awake : {terms : List Term} {n : ℕ} {table : Table} {sets : List ℕ} → n ≤ 64 → ((k : ℕ) → k < 64 → holds (pendingOf sets) k ≡ true) → ((j : ℕ) → j < n → holds (openOf sets) j ≡ false → Shut terms table j) → Watched [] terms n table sets
 pending-awake small all others = record { found = λ i j before below is left right. inr (inl (all i (omega arith))); others = others }
 
 -- At the start every lookup is open too.
-pub all-awake : {terms : List Term} {n : ℕ} (table : Table) {heads inputs sets : List ℕ} → Lookups terms n heads inputs → n ≤ 64 → ((k : ℕ) → k < 64 → holds (pendingOf sets) k ≡ true) → ((j : ℕ) → j < n → (getD heads j 0 ≡ 0 → ⊥) → holds (openOf sets) j ≡ true) → Awake terms n table sets
+pub all-awake : {terms : List Term} {n : ℕ} (table : Table) {heads inputs sets : List ℕ} → Lookups terms n heads inputs → n ≤ 64 → ((k : ℕ) → k < 64 → holds (pendingOf sets) k ≡ true) → ((j : ℕ) → j < n → (getD heads j 0 ≡ 0 → ⊥) → holds (openOf sets) j ≡ true) → Watched [] terms n table sets
 all-awake {terms} {n} table {heads} {inputs} {sets} lookups small pending opened =
     pending-awake small pending (λ j below out. inl (no-call (kindAt terms j) (sym (lookups .calls .head j below) ∙ by j below out (ℕ-discrete (getD heads j 0) 0))))
   where

@@ -1,39 +1,37 @@
-// The next pair of lookups that closing merges. A pair is looked at only where it waits: an input row of it has changed since it
-// was looked at last, and neither lookup was merged with a congruent one before it.
+// The next pair of lookups that closing merges: of all pairs due, the one of the smallest right side, and of those the smallest left side.
+//
+// Not all pairs are looked at. A pair that is not due falls due only when an input row of one of its sides changes, since equal rows stay
+// equal in every merge. So closing keeps, for each lookup j, the set of those before it that wait to be compared with j, and the set of the
+// right sides j that any waits for (`waiting`): a pair is compared once, and again only after an input row of it has changed.
+// And a lookup that closing has merged with one before it, its twin, is never looked at again, it is no longer open: the two have equal rows
+// and inputs from then on, so whatever is due with the later one is due with the earlier one, and that pair comes first.
+// What the sets hold is laid down where they are declared (`Serving` in the specs of `run_table`).
 use rules_problem::TERMS;
 use run_equal_rows::same_row;
 use run_table::OPEN;
 ghost use mathlib.Core.Path.{_≡_};
-ghost use mathlib.Core.Bool.{_&&_};
-ghost use mathlib.Core.List.{List};
-ghost use Prim.Native.Nat.{ℕ, _+_, _*_, _<_, _≤_};
-ghost use lib.ListN.{length, getD};
-ghost use Rattle.set_members.specs.Sets.{holds};
-ghost use Rattle.rules_problem.specs.declared.Kind.{Kind};
-ghost use Rattle.rules_problem.specs.declared.Term.{Term};
-ghost use Rattle.rules_problem.specs.Lookup.{alike};
-ghost use Rattle.rules_run.specs.Row.{sameRow};
-ghost use Rattle.rules_run.specs.Close.{isDue};
-ghost use Rattle.run_table.specs.Calls.{headOf};
-ghost use Rattle.run_table.specs.Held.{tableAt, SoundTo};
-ghost use Rattle.run_table.specs.Sparse.{openOf, Sparse};
-ghost use Rattle.run_table.specs.Work.{lent, entered};
-ghost use Rattle.run_due_pair.specs.Found.{symbolOf, Lookups, InputsBelow, sameInput, sameInputs, leftAmong, pairOf, Below, Passed};
-ghost use Rattle.run_due_pair.specs.Contract.{Searchable, FindsDue};
+ghost use Prim.Native.Nat.{_<_, _≤_};
+ghost use lib.ListN.{length};
+ghost use Rattle.rules_run.specs.Row.{TERMS};
+ghost use Rattle.run_table.specs.Sparse.{SETS, RIGHTS};
+ghost use Rattle.run_table.specs.Work.{lent, entered, tableOf};
+ghost use Rattle.run_due_pair.specs.Found.{sameInput, sameInputs, RightPassed};
+ghost use Rattle.run_due_pair.specs.Contract.{Alike, InputsComparable, PairComparable, TellsDue, OpenWaiting};
+ghost use Rattle.run_due_pair.specs.Contract.{LeftsSearchable, FindsLeft, Searchable, FindsDue};
 
-// Behind the sets of the lookups that wait to be compared with each: the set of those that any waits for.
+// Of the sets of `waiting`, set j holds the left sides that wait for j, and the last one the right sides that any waits for.
 pub const RIGHTS: usize = TERMS;
 
 // The pair due, of the smallest right and then the smallest left; or none is.
 pub enum Due {
     Pair { left: usize, right: usize },
-    Closed,
+    NoneDue,
 }
 
 // Lookups of one function have one head; the head 0 is no lookup.
 fn same_function(heads: &[u16], i: usize, j: usize) -> bool
     requires { ⌜ (i < length (now heads)) × (j < length (now heads)) ⌝ }
-    ensures { λ r. ⌜ ((k l : Kind) → getD (now (heads .entry)) i 0 ≡ headOf k → getD (now (heads .entry)) j 0 ≡ headOf l → symbolOf k < 256 → symbolOf l < 256 → r ≡ alike k l) ⌝ }
+    ensures { λ r. ⌜ Alike i j (now (heads .entry)) r ⌝ }
 {
     let head = heads[i];
     if head == 0 {
@@ -42,7 +40,7 @@ fn same_function(heads: &[u16], i: usize, j: usize) -> bool
     head == heads[j]
 }
 
-// Whether the inputs of i and j at one place have equal rows. Unused places hold 0 on both sides.
+// Whether the inputs of i and j at place k have equal rows. A place that a lookup does not use holds 0, on both sides.
 fn same_input(
     nums: &[i32],
     dens: &[i32],
@@ -53,12 +51,8 @@ fn same_input(
     j: usize,
     k: usize,
 ) -> bool
-    requires { ⌜ (i < n) × (j < n) × (k < 3) × (n ≤ 64) ⌝ }
-    requires { ⌜ (4160 ≤ length (now nums)) × (4160 ≤ length (now dens)) × (192 ≤ length (now inputs)) × (194 ≤ length (now sets)) ⌝ }
-    requires { ⌜ SoundTo (65 * n) (now nums) (now dens) ⌝ }
-    requires { ⌜ InputsBelow n (now inputs) ⌝ }
-    requires { ⌜ Sparse n (now nums) (now sets) ⌝ }
-    ensures { λ r. ⌜ r ≡ sameInput (tableAt n (now (nums .entry)) (now (dens .entry))) (now (inputs .entry)) i j k ⌝ }
+    requires { ⌜ InputsComparable n i j (now inputs) (lent nums dens sets) × (k < 3) ⌝ }
+    ensures { λ r. ⌜ r ≡ sameInput (tableOf n (entered nums dens sets)) (now (inputs .entry)) i j k ⌝ }
 {
     let t = inputs[3 * i + k] as usize;
     let u = inputs[3 * j + k] as usize;
@@ -74,12 +68,8 @@ fn same_inputs(
     i: usize,
     j: usize,
 ) -> bool
-    requires { ⌜ (i < n) × (j < n) × (n ≤ 64) ⌝ }
-    requires { ⌜ (4160 ≤ length (now nums)) × (4160 ≤ length (now dens)) × (192 ≤ length (now inputs)) × (194 ≤ length (now sets)) ⌝ }
-    requires { ⌜ SoundTo (65 * n) (now nums) (now dens) ⌝ }
-    requires { ⌜ InputsBelow n (now inputs) ⌝ }
-    requires { ⌜ Sparse n (now nums) (now sets) ⌝ }
-    ensures { λ r. ⌜ r ≡ sameInputs (tableAt n (now (nums .entry)) (now (dens .entry))) (now (inputs .entry)) i j ⌝ }
+    requires { ⌜ InputsComparable n i j (now inputs) (lent nums dens sets) ⌝ }
+    ensures { λ r. ⌜ r ≡ sameInputs (tableOf n (entered nums dens sets)) (now (inputs .entry)) i j ⌝ }
 {
     if !same_input(nums, dens, n, inputs, sets, i, j, 0) {
         return false;
@@ -101,13 +91,8 @@ fn is_due(
     i: usize,
     j: usize,
 ) -> bool
-    requires { ⌜ (i < j) × (j < n) × (n ≤ 64) ⌝ }
-    requires { ⌜ (4160 ≤ length (now nums)) × (4160 ≤ length (now dens)) ⌝ }
-    requires { ⌜ (64 ≤ length (now heads)) × (192 ≤ length (now inputs)) × (194 ≤ length (now sets)) ⌝ }
-    requires { ⌜ SoundTo (65 * n) (now nums) (now dens) ⌝ }
-    requires { ⌜ InputsBelow n (now inputs) ⌝ }
-    requires { ⌜ Sparse n (now nums) (now sets) ⌝ }
-    ensures { λ r. ⌜ ((terms : List Term) → Lookups terms n (now (heads .entry)) (now (inputs .entry)) → r ≡ isDue terms (tableAt n (now (nums .entry)) (now (dens .entry))) i j) ⌝ }
+    requires { ⌜ PairComparable n i j (now heads) (now inputs) (lent nums dens sets) ⌝ }
+    ensures { λ r. ⌜ TellsDue n i j (now (heads .entry)) (now (inputs .entry)) (entered nums dens sets) r ⌝ }
 {
     if !same_function(heads, i, j) {
         return false;
@@ -118,18 +103,18 @@ fn is_due(
     !same_row(nums, dens, n, sets, i, j)
 }
 
-// The open lookups of set k of those that wait: for a lookup k those to compare it with, for the last set the right sides.
+// The open lookups in set k of `waiting`: those to compare lookup k with; in the last set the right sides that any waits for.
 fn open_waiting(sets: &[u64], waiting: &[u64], k: usize) -> u64
-    requires { ⌜ (k < 65) × (194 ≤ length (now sets)) × (65 ≤ length (now waiting)) ⌝ }
-    ensures { λ r. ⌜ ((i : ℕ) → holds r i ≡ (holds (getD (now (waiting .entry)) k 0) i && holds (openOf (now (sets .entry))) i)) ⌝ }
+    requires { ⌜ (k ≤ RIGHTS) × (SETS ≤ length (now sets)) × (RIGHTS < length (now waiting)) ⌝ }
+    ensures { λ r. ⌜ OpenWaiting k (now (waiting .entry)) (now (sets .entry)) r ⌝ }
 {
     set_members::common(waiting[k], sets[OPEN])
 }
 
 // No lookup waits to be compared with j any more.
 fn pass(waiting: &mut [u64], j: usize)
-    requires { ⌜ (j < 64) × (65 ≤ length (now waiting)) ⌝ }
-    ensures { λ r. ⌜ Passed j (now (waiting .entry)) (now (waiting .exit)) ⌝ }
+    requires { ⌜ (j < TERMS) × (RIGHTS < length (now waiting)) ⌝ }
+    ensures { λ r. ⌜ RightPassed j (now (waiting .entry)) (now (waiting .exit)) ⌝ }
 {
     let rights = set_members::without(waiting[RIGHTS], j);
     waiting[j] = 0;
@@ -147,14 +132,8 @@ fn left_due(
     lefts: u64,
     j: usize,
 ) -> Due
-    requires { ⌜ (j < n) × (n ≤ 64) ⌝ }
-    requires { ⌜ (4160 ≤ length (now nums)) × (4160 ≤ length (now dens)) ⌝ }
-    requires { ⌜ (64 ≤ length (now heads)) × (192 ≤ length (now inputs)) × (194 ≤ length (now sets)) ⌝ }
-    requires { ⌜ SoundTo (65 * n) (now nums) (now dens) ⌝ }
-    requires { ⌜ InputsBelow n (now inputs) ⌝ }
-    requires { ⌜ Sparse n (now nums) (now sets) ⌝ }
-    ensures { λ r. ⌜ ((terms : List Term) → Lookups terms n (now (heads .entry)) (now (inputs .entry)) → leftAmong lefts terms (tableAt n (now (nums .entry)) (now (dens .entry))) j ≡ pairOf r) ⌝ }
-    ensures { λ r. ⌜ Below n r ⌝ }
+    requires { ⌜ LeftsSearchable n j (now heads) (now inputs) (lent nums dens sets) ⌝ }
+    ensures { λ r. ⌜ FindsLeft n lefts j (now (heads .entry)) (now (inputs .entry)) (entered nums dens sets) r ⌝ }
 {
     let mut rest = lefts;
     let mut i = set_extremes::first(rest);
@@ -165,10 +144,10 @@ fn left_due(
         rest = set_extremes::rest(rest);
         i = set_extremes::first(rest);
     }
-    Due::Closed
+    Due::NoneDue
 }
 
-// The pair due, where every pair due of open lookups waits. A right side with no pair due has none that waits afterwards.
+// The pair due, where every pair due of open lookups waits. Of a right side that has no pair due none waits afterwards.
 pub fn find_due(
     nums: &[i32],
     dens: &[i32],
@@ -187,11 +166,11 @@ pub fn find_due(
         let lefts = open_waiting(sets, waiting, j);
         match left_due(nums, dens, n, heads, inputs, sets, lefts, j) {
             Due::Pair { left, right } => return Due::Pair { left, right },
-            Due::Closed => {
+            Due::NoneDue => {
                 pass(waiting, j);
                 j = set_extremes::next(rights, j + 1);
             }
         }
     }
-    Due::Closed
+    Due::NoneDue
 }

@@ -1,5 +1,5 @@
 -- The test of two rows, number by number.
--- Main results: `equal-numbers`, `unequal-numbers`, `same-step`, `same-skips`, `same-outside`, `row-itself`, `same-rows`, `differing-rows`. Assume nothing.
+-- Main results: `equal-numbers`, `unequal-nums`, `unequal-dens`, `same-step`, `same-skips`, `same-outside`, `row-itself`, `same-rows`, `differing-rows`. Assume nothing.
 use mathlib.Core.Path.{_≡_, refl, sym, ap, ap₂, _∙_}
 use mathlib.Core.Bool.{Bool, true, false, _&&_, false≢true}
 use mathlib.Core.List.{List}
@@ -19,30 +19,38 @@ use Rattle.fraction_reduce.proofs.Lowest.{value-one-to-one}
 use Rattle.fraction_reduce.proofs.Operations.{good-num, good-den}
 use Rattle.rules_run.specs.Row.{Row, Table, TERMS, COLUMNS, column, rowOf, cell, sameTo, sameRow}
 use Rattle.laws_invariant.proofs.Rows.{sameRow-equal}
-use Rattle.run_table.specs.Held.{heldAt, rowAt, tableAt, SoundTo}
 use Rattle.set_members.specs.Sets.{holds}
+use Rattle.run_table.specs.Held.{heldAt, rowAt, tableAt, SoundTo}
 use Rattle.run_table.specs.Sparse.{Within}
 use Rattle.run_table.proofs.Columns.{column-held, row-held}
 use Rattle.run_table.proofs.Sparse.{zero-numerator}
+use Rattle.run_equal_rows.specs.Contract.{BothGood}
 
 word-one-to-one : {x y : ℤ} → SFits w32 x → SFits w32 y → ofZ w32 x ≡ ofZ w32 y → x ≡ y
 word-one-to-one p q e = sym (toZ-ofZ p) ∙ ap (toZ w32) e ∙ toZ-ofZ q
 
--- Good structs with the same two words are equal fractions.
-pub equal-numbers : {f g : Fraction} → Good f → Good g → ofZ w32 (f .num) ≡ ofZ w32 (g .num) → ofZ w32 (f .den) ≡ ofZ w32 (g .den) → eqℚ (value f) (value g) ≡ true
-equal-numbers {f} {g} p q n d =
-    let num = word-one-to-one (good-num p) (good-num q) n in
-    let den = word-one-to-one (good-den p) (good-den q) d in
-    let same : f ≡ g = λ i. record { num = num i; den = den i } in
-    eqℚ-same (ap value same)
+module _ {f g : Fraction} (both : BothGood f g) where
+  -- Good structs with the same two words are equal fractions.
+  pub equal-numbers : ofZ w32 (f .num) ≡ ofZ w32 (g .num) → ofZ w32 (f .den) ≡ ofZ w32 (g .den) → true ≡ eqℚ (value f) (value g)
+  equal-numbers n d =
+      let num = word-one-to-one (good-num (both .left)) (good-num (both .right)) n in
+      let den = word-one-to-one (good-den (both .left)) (good-den (both .right)) d in
+      let same : f ≡ g = λ i. record { num = num i; den = den i } in
+      sym (eqℚ-same (ap value same))
 
--- Good structs that differ in one of their words are unequal fractions.
-pub unequal-numbers : {f g : Fraction} → Good f → Good g → (word : Fraction → ℕ) → (word f ≡ word g → ⊥) → eqℚ (value f) (value g) ≡ false
-unequal-numbers {f} {g} p q word other = by (eqℚ (value f) (value g)) refl
-  where
-    by : (test : Bool) → eqℚ (value f) (value g) ≡ test → test ≡ false
-    by true e = absurd (other (ap word (value-one-to-one p q (eqℚ-yes (value f) (value g) e))))
-    by false e = refl
+  -- Good structs that differ in one of their words are unequal fractions.
+  unequal-words : (word : Fraction → ℕ) → (word f ≡ word g → ⊥) → false ≡ eqℚ (value f) (value g)
+  unequal-words word other = by (eqℚ (value f) (value g)) refl
+    where
+      by : (test : Bool) → eqℚ (value f) (value g) ≡ test → false ≡ test
+      by true e = absurd (other (ap word (value-one-to-one (both .left) (both .right) (eqℚ-yes (value f) (value g) e))))
+      by false e = refl
+
+  pub unequal-nums : (ofZ w32 (f .num) ≡ ofZ w32 (g .num) → ⊥) → false ≡ eqℚ (value f) (value g)
+  unequal-nums = unequal-words (λ x. ofZ w32 (x .num))
+
+  pub unequal-dens : (ofZ w32 (f .den) ≡ ofZ w32 (g .den) → ⊥) → false ≡ eqℚ (value f) (value g)
+  unequal-dens = unequal-words (λ x. ofZ w32 (x .den))
 
 -- The test of the first columns begins with the last of them.
 pub same-step : (c : ℕ) (r s : Row) {test : Bool} → 0 < c → test ≡ eqℚ (column r (c - 1)) (column s (c - 1)) → sameTo c r s ≡ test && sameTo (c - 1) r s

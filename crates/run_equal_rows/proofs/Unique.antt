@@ -1,9 +1,10 @@
 -- The contract leaves one answer.
 -- Main result: `same-row-unique`. Assumes nothing.
 use mathlib.Core.Path.{_≡_, sym, _∙_}
-use mathlib.Core.Bool.{Bool}
-use Prim.Native.Nat.{ℕ}
-use Rattle.rules_run.specs.Row.{Table, sameRow}
+use Rattle.unique.specs.Twice.{Twice}
+use Rattle.run_equal_rows.proofs.same_row.Kinds.{ps, r}
+use Rattle.run_equal_rows.proofs.same_row.Reads.{Post}
 
-pub same-row-unique : (table : Table) (t u : ℕ) (r s : Bool) → r ≡ sameRow table t u → s ≡ sameRow table t u → r ≡ s
-same-row-unique table t u r s p q = p ∙ sym q
+-- Said of the contract itself, as the toolchain reads it.
+pub same-row-unique : Twice ps r Post λ κs a x y end end′. x ≡ y
+same-row-unique κs a x y end end′ first second = first ∙ sym second

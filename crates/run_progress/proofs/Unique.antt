@@ -4,9 +4,7 @@ use mathlib.Core.Path.{_≡_, refl, sym, ap, _∙_}
 use mathlib.Core.List.{[]}
 use Prim.Native.Nat.{ℕ}
 use Rattle.answer.specs.declared.Answer.{Answer}
-use borrow.Fn.Kinds.{Dens, endedOf}
-use contract.Lifetimes.{Lfts}
-use denote.Triple.Clauses.{AtExit}
+use Rattle.unique.specs.Twice.{Twice}
 use Rattle.fraction.specs.Made.{Made, made, stopped}
 use Rattle.rules_run.specs.Row.{Table}
 use Rattle.rules_run.specs.Merge.{State}
@@ -39,6 +37,6 @@ module _ {m : Made Answer State} (r s : Ran) (table other : Table) (p : m ≡ ra
       let states : _≡_ {A = State} (record { table = table; solved = count }) (record { table = other; solved = count }) = cc in
       ap (λ state. state .table) states
 
--- No second answer satisfies the contract of `placed`.
-pub placed-unique : (κs : Lfts 0) (a : Dens κs ps) (x y : Ran) (end end′ : AtExit (endedOf 0 ps r) κs) → Post κs a x end → Post κs a y end′ → x ≡ y
-placed-unique κs a x y end end′ p q = ran-determined x y [] [] (p .answers []) (q .answers [])
+-- No second answer satisfies the contract of `placed`: said of the contract itself, as the toolchain reads it.
+pub placed-unique : Twice ps r Post λ κs a x y end end′. x ≡ y
+placed-unique κs a x y end end′ first second = ran-determined x y [] [] (first .answers []) (second .answers [])

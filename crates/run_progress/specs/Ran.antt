@@ -10,11 +10,10 @@ use Rattle.rules_problem.specs.Problem.{Problem, decoded}
 use Rattle.rules_run.specs.Row.{Table}
 use Rattle.rules_run.specs.Merge.{State}
 use Rattle.rules_run.specs.Run.{ends}
-use Rattle.run_table.specs.Work.{Work}
-use Rattle.run_due_pair.specs.Found.{Lookups}
+use Rattle.run_table.specs.Calls.{Lookups}
+use Rattle.run_table.specs.Work.{Work, Resting}
 use Rattle.run_close.specs.declared.Closed.{Closed}
 use Rattle.run_close.specs.Outcome.{closed}
-use Rattle.run_close.specs.Ready.{Resting}
 use Rattle.record_reader.specs.Held.{Held}
 use Rattle.run_progress.specs.declared.Ran.{Ran}
 use Rattle.run_progress.specs.declared.Ran.the-variants.{Going, Ended}

@@ -1,5 +1,5 @@
 -- What the values fix: lists that hold the same values, in lowest terms and within the limits, hold the same numbers.
--- Main results: `step-determined`, `done-determined`, `row-determined`, `table-determined`, `lists-determined`, `row-made-unique`. Assume nothing.
+-- Main results: `step-determined`, `done-determined`, `row-determined`, `table-determined`, `kept-both`, `lists-determined`, `row-made-unique`. Assume nothing.
 use mathlib.Core.Path.{_≡_, refl, sym, ap, _∙_}
 use mathlib.Core.Logic.{inl, inr}
 use mathlib.Core.List.{List}
@@ -54,7 +54,16 @@ module _ {nums dens nums′ dens′ : List ℤ} where
       rw place (row-determined (65 * t) (omega arith) first second
       (sym (row-held n nums dens t inside) ∙ ap (λ table. rowOf table t) same ∙ row-held n nums′ dens′ t inside) (k % 65) (omega arith))
 
-  -- Lists that differ from the same lists in the same places alone, and hold the same there, are the same.
+  -- Lists that differ from the same lists in the same places alone differ from each other in no other,
+  pub kept-both : {base end : ℕ} {nums₀ dens₀ : List ℤ} → Kept base end nums₀ dens₀ nums dens → Kept base end nums₀ dens₀ nums′ dens′ → Kept base end nums dens nums′ dens′
+  kept-both first second =
+      record {
+        nums-length = second .nums-length ∙ sym (first .nums-length);
+        dens-length = second .dens-length ∙ sym (first .dens-length);
+        outside = λ k out. second .outside k out ∙ sym (first .outside k out);
+      }
+
+  -- and where they hold the same there, they are the same.
   pub lists-determined : {base end : ℕ} {nums₀ dens₀ : List ℤ} → Kept base end nums₀ dens₀ nums dens → Kept base end nums₀ dens₀ nums′ dens′ → ((k : ℕ) → base ≤ k → k < end → heldAt nums dens k ≡ heldAt nums′ dens′ k) → (nums ≡ nums′) × (dens ≡ dens′)
   lists-determined {base} {end} first second inside = (
     ext-getD (pos 0) nums nums′ (first .nums-length ∙ sym (second .nums-length)) (λ k below. ap (λ f. f .num) (everywhere k)),

@@ -5,23 +5,23 @@ use mathlib.Core.List.{List}
 use Prim.Native.Nat.{ℕ, _+_, _*_, _/_, _%_, _≤_, _<_}
 use native.Mathlib.Decide.{decLt}
 use native.Mathlib.Omega.{arith}
-use lib.ListN.{getD, set}
+use lib.ListN.{getD}
 use lib.Seq.{ext-getD}
-use lib.IntN.{ℤ}
-use Rattle.fraction.specs.declared.Fraction.{Fraction}
+use denote.Ref.{now}
+use Rattle.unique.specs.Twice.{Twice}
 use Rattle.rules_problem.specs.declared.Term.{Term}
-use Rattle.run_table.specs.Held.{heldAt}
 use Rattle.run_table.specs.Calls.{Calls, NotesKept}
+use Rattle.run_table.proofs.get.Kinds as get-kinds
+use Rattle.run_table.proofs.get.Reads as get-reads
+use Rattle.run_table.proofs.put.Kinds as put-kinds
+use Rattle.run_table.proofs.put.Reads as put-reads
 
-pub get-unique : (nums dens : List ℤ) (k : ℕ) (r s : Fraction) → r ≡ heldAt nums dens k → s ≡ heldAt nums dens k → r ≡ s
-get-unique nums dens k r s p q = p ∙ sym q
+-- Each law is said of the function's own contract, as the toolchain reads it.
+pub get-unique : Twice get-kinds.ps get-kinds.r get-reads.Post λ κs a x y end end′. x ≡ y
+get-unique κs a x y end end′ first second = first ∙ sym second
 
--- what `put` ensures of the lists at exit
-abbrev pub Stored : (k : ℕ) (f : Fraction) (nums₀ dens₀ nums dens : List ℤ) → Type 0
-Stored k f nums₀ dens₀ nums dens = (nums ≡ set nums₀ k (f .num)) × (dens ≡ set dens₀ k (f .den))
-
-pub put-unique : (k : ℕ) (f : Fraction) (nums₀ dens₀ nums dens nums′ dens′ : List ℤ) → Stored k f nums₀ dens₀ nums dens → Stored k f nums₀ dens₀ nums′ dens′ → (nums ≡ nums′) × (dens ≡ dens′)
-put-unique k f nums₀ dens₀ nums dens nums′ dens′ first second = (first .0 ∙ sym (second .0), first .1 ∙ sym (second .1))
+pub put-unique : Twice put-kinds.ps put-kinds.r put-reads.Post λ κs a x y end end′. (now (end .0) ≡ now (end′ .0)) × (now (end .1 .0) ≡ now (end′ .1 .0))
+put-unique κs a x y end end′ first second = (first .0 ∙ sym (second .0), first .1 ∙ sym (second .1))
 
 -- Lists that differ from the same lists in the places of n terms alone, and hold the calls of the same terms there, are the same.
 pub calls-determined : {terms : List Term} {n : ℕ} {heads₀ inputs₀ heads inputs heads′ inputs′ : List ℕ} → NotesKept n heads₀ inputs₀ heads inputs → NotesKept n heads₀ inputs₀ heads′ inputs′ → Calls terms n heads inputs → Calls terms n heads′ inputs′ → (heads ≡ heads′) × (inputs ≡ inputs′)

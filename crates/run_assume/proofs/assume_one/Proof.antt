@@ -27,7 +27,7 @@ placed-requires c κs =
     let k : tie.After-close = search in
     let m : tie.After-merge = search in
     let s : tie.Start = search in
-    counted-more _ (omega (arith, s .pre .resting .ready .rows .few)) (k .close .ensures .counted)
+    counted-more _ (omega (arith, s .pre .resting .rows .few)) (k .close .ensures .counted)
 
 enum-told-2 : tie.Need-enum-told-2
 enum-told-2 c = search needs
@@ -50,7 +50,7 @@ placed-requires-2 c κs =
     let k : tie.After-close2 = search in
     let m : tie.After-merge = search in
     let s : tie.Start = search in
-    counted-more _ (omega (arith, s .pre .resting .ready .rows .few)) (k .close2 .ensures .counted)
+    counted-more _ (omega (arith, s .pre .resting .rows .few)) (k .close2 .ensures .counted)
 
 enum-told-3 : tie.Need-enum-told-3
 enum-told-3 c = search needs

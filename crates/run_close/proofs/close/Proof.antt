@@ -58,6 +58,9 @@ woke f = search
 abbrev head : Woke → Head
 head w = search
 
+abbrev turn : Woke → tie.In-loop Inv-loop μ-loop
+turn w = search
+
 abbrev start : Head → Start
 start h = search
 
@@ -83,7 +86,7 @@ wake-requires : tie.Need-wake-requires Inv-loop μ-loop
 wake-requires c κs =
     let h : Head = search in
     let closing = h .loop .inv in
-    let rows = closing .ready .rows in
+    let rows = closing .serving .rows in
     search needs
 
 slice-aggregate-find-due : tie.Need-slice-aggregate-find-due Inv-loop μ-loop
@@ -127,7 +130,7 @@ without-requires c κs =
     let w = woke f in
     let h = head w in
     let order = pair-below (h .loop .inv) (w .wake .ensures) (f .find-due .ensures) (search needs) (l .left .given .1) 0 in
-    omega (arith, h .loop .inv .ready .rows .few)
+    omega (arith, h .loop .inv .serving .rows .few)
 
 slice-write-sets : tie.Need-slice-write-sets Inv-loop μ-loop
 slice-write-sets c = search needs
@@ -161,10 +164,10 @@ enum-told-2 : tie.Need-enum-told-2 Inv-loop μ-loop
 enum-told-2 c = search needs
 
 sub-turns : tie.Need-sub-turns Inv-loop μ-loop
-sub-turns c = search needs
+sub-turns c = let m : Merging = search in let some-left = turn (woke (searched (paired (shut m)))) .loop-test .taken in search needs
 
 loop-less : tie.Need-loop-less Inv-loop μ-loop
-loop-less c = search needs
+loop-less c = let m : Merging = search in let some-left = turn (woke (searched (paired (shut m)))) .loop-test .taken in search needs
 
 loop-again : tie.Need-loop-again Inv-loop μ-loop
 loop-again c = let m : Merging = search in turned m .same (c .enum-told2 .given .1)
@@ -179,10 +182,10 @@ add-count c =
     record { fits = omega (arith, h .loop .inv .counted, start h .pre) }
 
 sub-turns-2 : tie.Need-sub-turns-2 Inv-loop μ-loop
-sub-turns-2 c = search needs
+sub-turns-2 c = let m : Merging = search in let some-left = turn (woke (searched (paired (shut m)))) .loop-test .taken in search needs
 
 loop-less-2 : tie.Need-loop-less-2 Inv-loop μ-loop
-loop-less-2 c = search needs
+loop-less-2 c = let m : Merging = search in let some-left = turn (woke (searched (paired (shut m)))) .loop-test .taken in search needs
 
 loop-again-2 : tie.Need-loop-again-2 Inv-loop μ-loop
 loop-again-2 c = let m : Merging = search in turned m .more (c .enum-told3 .given .1)

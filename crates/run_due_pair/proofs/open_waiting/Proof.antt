@@ -18,7 +18,7 @@ common-requires c κs = search needs
 
 returns : tie.Need-returns
 unfolding openOf
-returns c = c .common .ensures
+returns c = record { inside = c .common .ensures }
 
 pub open-waiting-spec : {M : Type 1} → statement M
 open-waiting-spec = tie.close (tie.spec mul-common shared-slice-read-common shared-slice-read-common-2 common-requires returns)

@@ -8,10 +8,6 @@ use Rattle.set_members.specs.Sets.{holds}
 use Rattle.run_due_pair.proofs.pass.Statement.{statement}
 use Rattle.run_due_pair.proofs.pass.Tie as tie
 
--- the places, each found by its type
-abbrev start-of-without : tie.After-without → tie.Start
-start-of-without x = search
-
 slice-read-without : tie.Need-slice-read-without
 slice-read-without c = search needs
 
@@ -32,7 +28,7 @@ same-length c = search needs
 
 returns : tie.Need-returns
 returns c =
-    let start = start-of-without c in
+    let start : tie.Start = search in
     let waiting = start .args .waiting .now in
     let j = start .args .j in
     let rights = c .without .result in

@@ -1,3 +1,4 @@
+-- `run_equal_rows::differ_at` meets its contract. Assumes nothing.
 use borrow.Author.Needs.{needs}
 use borrow.Author.Tests.{eq-eqb}
 use mathlib.Core.Path.{ap}

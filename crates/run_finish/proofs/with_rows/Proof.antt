@@ -7,9 +7,7 @@ use Rattle.run_finish.proofs.with_rows.Statement.{statement}
 use Rattle.run_finish.proofs.with_rows.Tie as tie
 
 same-row-requires : tie.Need-same-row-requires
-same-row-requires c κs =
-    let s = c .before .before .before in
-    ((s .pre .0 .1, s .pre .0 .2, s .pre .0 .0), ((s .pre .1 .0 .0, s .pre .1 .0 .1, omega (arith, s .pre .1 .1 .1 .0)), (s .pre .1 .1 .0, s .pre .1 .1 .1 .1)))
+same-row-requires c κs = search needs
 
 mul-fill : tie.Need-mul-fill
 mul-fill c = search needs

@@ -1,6 +1,7 @@
 -- `run_close::wake::wake` meets its contract. Assumes nothing.
 use borrow.Author.Needs.{needs}
-use Prim.Native.Nat.{_+_, _-_, _<_}
+use mathlib.Core.List.{List}
+use Prim.Native.Nat.{ℕ, _+_, _-_, _<_}
 use native.Mathlib.Omega.{arith}
 use Rattle.set_extremes.specs.Ends.{Next}
 use Rattle.set_extremes.proofs.Taken.{From, from-starts, from-first, from-here, from-rest}
@@ -9,8 +10,14 @@ use Rattle.run_close.proofs.Waking.{Waking, grown-itself, waking-skips,
 use Rattle.run_close.proofs.wake.wake.Statement.{statement}
 use Rattle.run_close.proofs.wake.wake.Tie as tie
 
+-- In the loop: the open right sides below j are noted, and those from j on are left.
+record WakingOn (sets waiting₀ waiting : List ℕ) (rest j : ℕ) : Type 0 where
+  waking : Waking sets waiting₀ j waiting
+  from : From (openOf sets) j rest
+  next : Next rest 0 j
+
 abbrev Inv-loop : tie.InvT-loop
-Inv-loop n sets waiting₀ rest₀ j₀ waiting rest j = Waking sets waiting₀ j waiting × From (openOf sets) j rest × Next rest 0 j
+Inv-loop n sets waiting₀ rest₀ j₀ waiting rest j = WakingOn sets waiting₀ waiting rest j
 
 abbrev μ-loop : tie.MeasureT-loop
 μ-loop n sets waiting₀ rest₀ j₀ waiting rest j = n - j
@@ -36,10 +43,10 @@ loop-holds : tie.Need-loop-holds Inv-loop μ-loop
 unfolding openOf
 loop-holds c =
     let next = c .first .ensures in
-    (waking-skips next (record { grown = grown-itself _; adds = λ i k before low. absurd (omega arith) }), from-here (omega arith) (from-starts _) next, next)
+    record { waking = waking-skips next (record { grown = grown-itself _; adds = λ i k before low. absurd (omega arith) }); from = from-here (omega arith) (from-starts _) next; next = next }
 
 wake-right-requires : tie.Need-wake-right-requires Inv-loop μ-loop
-wake-right-requires c κs = let h : Head = search in let sized = h .loop .inv .0 .grown .same-length in search needs
+wake-right-requires c κs = let h : Head = search in let sized = h .loop .inv .waking .grown .same-length in search needs
 
 rest-requires : tie.Need-rest-requires Inv-loop μ-loop
 rest-requires c κs = search needs
@@ -64,7 +71,7 @@ onward : (c : tie.After-first2 Inv-loop μ-loop) → let h = head c in let sets 
 onward c =
     let h = head c .loop in
     let few : h .j < 64 = search needs in
-    let later = from-rest (omega arith) (h .inv .1) (h .inv .2) (rest c .rest .ensures) in
+    let later = from-rest (omega arith) (h .inv .from) (h .inv .next) (rest c .rest .ensures) in
     (from-first (omega arith) later (c .first2 .ensures), from-here (omega arith) later (c .first2 .ensures))
 
 loop-less : tie.Need-loop-less Inv-loop μ-loop
@@ -74,7 +81,7 @@ loop-again : tie.Need-loop-again Inv-loop μ-loop
 loop-again c =
     let turn = woke c .wake-right in
     let h = head c .loop in
-    (waking-skips (onward c .0) (waking-more (h .j) (turn .ensures .0) (turn .ensures .1) (h .inv .0)), onward c .1, c .first2 .ensures)
+    record { waking = waking-skips (onward c .0) (waking-more (h .j) (turn .ensures) (h .inv .waking)); from = onward c .1; next = c .first2 .ensures }
 
 slice-write-sets : tie.Need-slice-write-sets Inv-loop μ-loop
 slice-write-sets c = search needs
@@ -83,13 +90,13 @@ same-length : tie.Need-same-length Inv-loop μ-loop
 same-length c = search needs
 
 same-length-2 : tie.Need-same-length-2 Inv-loop μ-loop
-same-length-2 c = let h : Head = search in h .loop .inv .0 .grown .same-length
+same-length-2 c = let h : Head = search in h .loop .inv .waking .grown .same-length
 
 returns-2 : tie.Need-returns-2 Inv-loop μ-loop
 returns-2 c =
     let h : Head = search in
     let asked = start h .pre in
-    woken-ends _ (search needs) (asked .0) (omega (arith, asked)) (h .loop .inv .0)
+    woken-ends _ (search needs) (omega arith) (omega arith) (h .loop .inv .waking)
 
 pub wake-spec : {M : Type 1} → statement M
 wake-spec =

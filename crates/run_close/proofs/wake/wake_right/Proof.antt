@@ -1,11 +1,7 @@
 -- `run_close::wake::wake_right` meets its contract. Assumes nothing.
 use borrow.Author.Needs.{needs}
-use mathlib.Core.Path.{sym, ap, _∙_}
-use mathlib.Core.Bool.{false≢true}
 use native.Mathlib.Omega.{arith}
-use Rattle.set_members.specs.Sets.{holds}
-use Rattle.set_members.proofs.Digits.{holds-none}
-use Rattle.run_close.proofs.Waking.{grown-itself, right-noted}
+use Rattle.run_close.proofs.Waking.{none-noted, right-noted}
 use Rattle.run_close.proofs.wake.wake_right.Statement.{statement}
 use Rattle.run_close.proofs.wake.wake_right.Tie as tie
 
@@ -13,10 +9,7 @@ candidates-requires : tie.Need-candidates-requires
 candidates-requires c κs = search needs
 
 returns : tie.Need-returns
-returns c = let looked : tie.After-candidates = search in (
-  grown-itself _,
-  λ i is. let found = looked .candidates in absurd (false≢true (sym (holds-none i) ∙ ap (λ s. holds s i) (sym (c .if1 .taken)) ∙ found .ensures i ∙ is)),
-)
+returns c = search none-noted
 
 mul-union : tie.Need-mul-union
 mul-union c = search needs
@@ -50,8 +43,8 @@ returns-2 c =
     let union : tie.After-union = search in
     let found : tie.After-candidates = search in
     let start : tie.Start = search in
-    let noted = right-noted (start .args .waiting .now) (start .args .j) (union .union .result) (c .with .result) (found .candidates .result) (start .pre .0) (start .pre .2) (union .union .ensures) (c .with .ensures) in
-    (noted .0, λ i is. noted .1 i (found .candidates .ensures i ∙ is))
+    let asked = start .pre in
+    right-noted (start .args .waiting .now) (start .args .j) (union .union .result) (c .with .result) (found .candidates .result) (omega arith) (omega arith) (union .union .ensures) (c .with .ensures) (found .candidates .ensures)
 
 pub wake-right-spec : {M : Type 1} → statement M
 wake-right-spec =

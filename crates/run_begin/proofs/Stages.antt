@@ -31,7 +31,7 @@ use Rattle.run_close.specs.Contract.{Closable, Closes}
 use Rattle.run_close.specs.Outcome.{Counted}
 use Rattle.run_progress.specs.declared.Ran.{Ran}
 use Rattle.run_progress.specs.declared.Ran.the-variants.{Ended}
-use Rattle.run_progress.specs.Ran.{ran, AtMost, WhileGoing, Prepared, Places}
+use Rattle.run_progress.specs.Ran.{ran, AtMost, WhileGoing, Places}
 use Rattle.run_progress.proofs.Going.{counted-more, when-going, going-holds, open-going}
 use Rattle.run_begin.specs.Contract.{Begins}
 use Rattle.run_begin.proofs.Noted.{decoded-inputs, decoded-lookups}

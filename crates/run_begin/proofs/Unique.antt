@@ -4,7 +4,6 @@ use mathlib.Core.Path.{_≡_, sym, _∙_}
 use mathlib.Core.List.{List}
 use Prim.Native.Nat.{ℕ, _*_}
 use lib.ListN.{length}
-use denote.Ref.{now}
 use Rattle.unique.specs.Twice.{TwiceAsked}
 use Rattle.record_reader.specs.Held.{Held}
 use Rattle.rules_run.specs.Row.{COLUMNS}

@@ -14,7 +14,6 @@ use lib.ListN.{length, getD, set, length-set}
 use lib.Seq.{getD-set-same, getD-set-other}
 use lib.IntN.{ℤ}
 use Rattle.set_members.specs.Sets.{holds}
-use Rattle.rules_run.specs.Row.{TERMS}
 use Rattle.run_table.specs.Sparse.{SETS, USERS, EARLIER, OPEN, columnsOf, usersOf, earlierOf, openOf, Sparse, Linked}
 use Rattle.run_table.proofs.Linked.{linked-kept}
 use Rattle.run_build.specs.Contract.{Usable, UserNoted, AllUsable, UsersNoted, Traceable, EarlierFound, Linkable, LinksNoted}

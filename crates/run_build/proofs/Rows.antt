@@ -15,7 +15,6 @@ use Rattle.set_members.proofs.Digits.{holds-all}
 use Rattle.fraction.specs.Made.{Made, made, stopped, _>>=_}
 use Rattle.rules_problem.specs.declared.Kind.the-variants.{Variable}
 use Rattle.rules_problem.specs.declared.Term.{Term}
-use Rattle.rules_problem.specs.Bits.{field}
 use Rattle.rules_problem.specs.Lookup.{kindAt}
 use Rattle.rules_problem.specs.Problem.{Problem, termAt, decoded}
 use Rattle.rules_problem.proofs.Holding.{holding, terms-count}
@@ -27,7 +26,7 @@ use Rattle.run_table.specs.declared.Step.the-variants.{Done, Refused}
 use Rattle.run_table.specs.Calls.{Calls, NotesKept}
 use Rattle.run_table.specs.Held.{listed, rowAt, tableAt, finished}
 use Rattle.run_table.specs.Loop.{Kept}
-use Rattle.run_table.specs.Sparse.{SETS, PENDING, OPEN, Linked, pendingOf}
+use Rattle.run_table.specs.Sparse.{PENDING, OPEN, Linked, pendingOf}
 use Rattle.run_table.specs.Work.{tableOf, Rows}
 use Rattle.run_table.proofs.Columns.{table-length, kept-itself, kept-within, kept-then}
 use Rattle.run_table.proofs.Linked.{linked-same}

@@ -4,14 +4,13 @@ use mathlib.Core.Path.{_≡_, sym, _∙_}
 use mathlib.Core.List.{List}
 use Prim.Native.Nat.{ℕ, _*_}
 use lib.ListN.{length}
-use denote.Ref.{now}
 use Rattle.unique.specs.Twice.{TwiceAsked}
 use Rattle.record_reader.specs.Held.{Held}
 use Rattle.rules_run.specs.Row.{COLUMNS}
 use Rattle.run_table.specs.declared.Step.{Step}
 use Rattle.run_table.specs.declared.Step.the-variants.{Done}
 use Rattle.run_table.specs.Calls.{NotesKept}
-use Rattle.run_table.specs.Lists.{both, lists}
+use Rattle.run_table.specs.Lists.{both}
 use Rattle.run_table.specs.Work.{tableOf}
 use Rattle.run_table.proofs.Determined.{step-determined, done-determined, table-determined, lists-determined}
 use Rattle.run_table.proofs.SameEnd.{SameEnd, kept-alike}

@@ -1,5 +1,6 @@
 -- What the functions of the build ask for, and what they ensure: the rows of the terms, their lookups as numbers, and the links of these.
--- Main definitions: `Beginnable`, `Standing`, `Builds`, and a record for what each of the other functions asks for or ensures. Assume nothing.
+-- Main definitions: `Beginnable`, `Standing`, `Builds`, and a record for what each of the other functions asks for or ensures.
+-- Assume nothing.
 use mathlib.Core.Path.{_≡_}
 use mathlib.Core.Bool.{true}
 use mathlib.Core.List.{List, []}

@@ -11,7 +11,7 @@ use native.Mathlib.Omega.{arith}
 use borrow.Author.Tests.{eq-eqb, ne-eqb}
 use denote.Enum.Declared.{tagOf}
 use types.Run.{OneOf, miss}
-use lib.ListN.{length, set}
+use lib.ListN.{set}
 use lib.IntN.{ℤ, pos}
 use Rattle.set_members.specs.Sets.{holds}
 use Rattle.fraction.specs.declared.Fraction.{Fraction}
@@ -23,7 +23,7 @@ use Rattle.fraction_reduce.proofs.Tests.{zero-stands}
 use Rattle.rules_problem.specs.declared.Kind.{Kind}
 use Rattle.rules_problem.specs.declared.Kind.the-variants.{Variable, Constant, Gain, Sum, Difference, Lookup1, Lookup2, Lookup3}
 use Rattle.rules_problem.proofs.Kind.{the-type}
-use Rattle.rules_run.specs.Row.{COLUMNS, TERMS, PLACES, constant}
+use Rattle.rules_run.specs.Row.{COLUMNS, TERMS, constant}
 use Rattle.rules_run.specs.Build.{alone, builtColumn}
 use Rattle.run_table.specs.declared.Step.{Step}
 use Rattle.run_table.specs.declared.Step.the-variants.{Done}

@@ -9,10 +9,9 @@ use native.Mathlib.Omega.{arith}
 use lib.IntN.{ℤ}
 use Rattle.fraction_reduce.specs.Values.{Good}
 use Rattle.rules_problem.specs.declared.Kind.{Kind}
-use Rattle.rules_run.specs.Row.{COLUMNS, TERMS, row}
+use Rattle.rules_run.specs.Row.{COLUMNS, row}
 use Rattle.rules_run.specs.Build.{builtColumn}
 use Rattle.run_table.specs.declared.Step.{Step}
-use Rattle.run_table.specs.declared.Step.the-variants.{Done, Refused}
 use Rattle.run_table.specs.Held.{rowAt, tableAt, SoundTo}
 use Rattle.run_table.specs.Loop.{Kept, RowMade}
 use Rattle.run_table.proofs.Columns.{listed-same, kept-row, kept-then}

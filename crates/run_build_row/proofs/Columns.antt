@@ -1,27 +1,18 @@
 -- What stands in one column of an earlier row, and 1 as a fraction.
 -- Main results: `cell-stands`, `one-stands`. Assume nothing.
 use mathlib.Core.Path.{_≡_, refl, sym, ap, _∙_, subst}
-use mathlib.Core.List.{List, [], _∷_}
+use mathlib.Core.List.{List}
 use Prim.Native.Nat.{ℕ, _+_, _*_, _<_}
 use native.Mathlib.Omega.{arith}
 use lib.IntN.{ℤ, pos}
-use denote.Enum.Declared.{tagOf}
-use types.Run.{OneOf, miss}
 use Rattle.fraction.specs.declared.Fraction.{Fraction}
 use Rattle.fraction.specs.Exact.{value, whole, oneℚ}
-use Rattle.fraction.specs.Limits.{limit, times}
-use Rattle.fraction.specs.Made.{made}
+use Rattle.fraction.specs.Limits.{limit}
 use Rattle.fraction_reduce.specs.Values.{Good, Stands}
 use Rattle.fraction_reduce.proofs.Linked.{stands}
-use Rattle.rules_problem.specs.declared.Kind.{Kind}
-use Rattle.rules_problem.specs.declared.Kind.the-variants.{Variable, Constant, Gain, Sum, Difference, Lookup1, Lookup2, Lookup3}
-use Rattle.rules_problem.proofs.Kind.{the-type}
-use Rattle.rules_run.specs.Row.{COLUMNS, TERMS, constant, column, cell}
-use Rattle.rules_run.specs.Build.{alone, builtColumn}
+use Rattle.rules_run.specs.Row.{COLUMNS, column, cell}
 use Rattle.run_table.specs.Held.{heldAt, tableAt, SoundTo}
 use Rattle.run_table.proofs.Columns.{column-held, row-held}
-use Rattle.run_build_row.specs.Buildable.{Holding, Below}
-use Rattle.run_build_row.specs.Contract.{Lowered}
 
 -- What stands in an earlier row is what the table has there, and good.
 pub cell-stands : (nums dens : List ℤ) (t input c : ℕ) {f : Fraction} → SoundTo (COLUMNS * t) nums dens → input < t → c < COLUMNS → f ≡ heldAt nums dens (COLUMNS * input + c) → Stands f (cell (tableAt t nums dens) input c)

@@ -10,7 +10,7 @@ use Rattle.fraction_reduce.specs.declared.Made.{Made}
 use Rattle.fraction_reduce.specs.Values.{Good, Stands, Answers}
 use Rattle.rules_problem.specs.declared.Kind.{Kind}
 use Rattle.rules_problem.specs.declared.Kind.the-variants.{Gain, Sum, Difference}
-use Rattle.rules_run.specs.Row.{TERMS, COLUMNS, PLACES, cell}
+use Rattle.rules_run.specs.Row.{cell}
 use Rattle.rules_run.specs.Build.{builtColumn}
 use Rattle.run_table.specs.Held.{tableAt}
 use Rattle.run_table.specs.Lists.{Lists}

@@ -1,7 +1,7 @@
 -- The columns that the row of a term can have, read off the sets of its inputs.
 -- Main results: `slot-fits`, `slot-there`, `constant-columns`, `gain-columns`, `sum-columns`, `difference-columns`, `unknown-columns`. Assume nothing.
 use mathlib.Core.Path.{_≡_, refl, sym, ap, _∙_}
-use mathlib.Core.Bool.{Bool, _||_, or-false}
+use mathlib.Core.Bool.{_||_, or-false}
 use mathlib.Core.List.{List, [], _∷_}
 use Prim.Native.Nat.{ℕ, _*_, _<_}
 use native.Mathlib.Omega.{arith}
@@ -17,8 +17,7 @@ use Rattle.fraction.specs.declared.Fraction.{Fraction}
 use Rattle.rules_problem.specs.declared.Kind.{Kind}
 use Rattle.rules_problem.specs.declared.Kind.the-variants.{Variable, Constant, Gain, Sum, Difference, Lookup1, Lookup2, Lookup3}
 use Rattle.rules_problem.proofs.Kind.{the-type}
-use Rattle.rules_run.specs.Row.{TERMS}
-use Rattle.run_table.specs.Sparse.{SETS, columnsOf}
+use Rattle.run_table.specs.Sparse.{columnsOf}
 use Rattle.run_build_row.specs.Contract.{Coverable}
 use Rattle.run_build_row.specs.Sparse.{mayHold}
 

@@ -1,16 +1,15 @@
 -- The loop that makes the row of a gain, a sum or a difference: the law of loops over the columns of a set, put to use.
 -- Main definition: `Joining`. Main results: `joining-starts`, `joining-reads`, `joining-answers`, `joining-makes`. Assume nothing.
-use mathlib.Core.Path.{_≡_, subst}
+use mathlib.Core.Path.{subst}
 use mathlib.Core.List.{List}
 use Prim.Native.Nat.{ℕ, _+_, _*_}
 use native.Mathlib.Omega.{arith}
-use lib.ListN.{length}
 use lib.IntN.{ℤ}
 use Rattle.set_extremes.specs.Ends.{Next}
 use Rattle.fraction_reduce.specs.declared.Made.{Made}
 use Rattle.fraction_reduce.specs.Values.{Answers}
 use Rattle.rules_problem.specs.declared.Kind.{Kind}
-use Rattle.rules_run.specs.Row.{TERMS, COLUMNS, PLACES}
+use Rattle.rules_run.specs.Row.{COLUMNS}
 use Rattle.rules_run.specs.Build.{builtColumn}
 use Rattle.run_table.specs.declared.Step.{Step}
 use Rattle.run_table.specs.Lists.{Lists, both}

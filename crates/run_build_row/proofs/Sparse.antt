@@ -4,7 +4,7 @@ use mathlib.Core.Path.{_≡_, refl, sym, ap, ap₂, _∙_}
 use mathlib.Core.Logic.{inl}
 use mathlib.Core.Bool.{Bool, true, false, _||_, cond, true≢false}
 use mathlib.Core.List.{List}
-use Prim.Native.Nat.{ℕ, _+_, _-_, _*_, _≤_, _<_}
+use Prim.Native.Nat.{ℕ, _+_, _-_, _*_, _<_}
 use native.Mathlib.Decide.{ℕ-discrete, decLt}
 use native.Mathlib.Omega.{arith}
 use borrow.Author.Tests.{ne-eqb}
@@ -21,7 +21,7 @@ use Rattle.fraction_reduce.specs.Values.{Good}
 use Rattle.fraction_reduce.proofs.Tests.{zero-stands, zero-passes}
 use Rattle.rules_problem.specs.declared.Kind.{Kind}
 use Rattle.rules_problem.specs.declared.Kind.the-variants.{Variable, Constant, Gain, Sum, Difference, Lookup1, Lookup2, Lookup3}
-use Rattle.rules_run.specs.Row.{TERMS, COLUMNS, PLACES, constant, cell}
+use Rattle.rules_run.specs.Row.{TERMS, COLUMNS, constant, cell}
 use Rattle.rules_run.specs.Build.{alone, builtColumn}
 use Rattle.run_table.specs.Held.{heldAt, tableAt, SoundTo}
 use Rattle.run_table.specs.Lists.{Lists, both}

@@ -10,7 +10,7 @@ use lib.Seq.{getD-set-other}
 use Rattle.set_members.specs.Sets.{holds}
 use Rattle.fraction_reduce.specs.Values.{Good}
 use Rattle.rules_problem.specs.declared.Kind.{Kind}
-use Rattle.rules_run.specs.Row.{TERMS, COLUMNS, PLACES}
+use Rattle.rules_run.specs.Row.{COLUMNS}
 use Rattle.run_table.specs.declared.Step.{Step}
 use Rattle.run_table.specs.Lists.{Lists, both}
 use Rattle.run_build_row.specs.Buildable.{Buildable}

@@ -14,7 +14,8 @@ ghost use Rattle.fraction_reduce.specs.Values.{Answers};
 ghost use Rattle.run_table.specs.Lists.{lists, atEntry, atExit};
 ghost use Rattle.run_table.specs.Work.{lent, entered, leaving};
 ghost use Rattle.run_build_row.specs.Buildable.{Written, Holding};
-ghost use Rattle.run_build_row.specs.Contract.{columnBuilt, cellAt, Room, Readable, Combinable, Lowered, Blanks, Coverable, Blanked, Placeable, StandsAlone, Makeable, Joinable, Makes, TermBuildable, TermBuilt};
+ghost use Rattle.run_build_row.specs.Contract.{columnBuilt, cellAt, Room, Readable, Combinable, Lowered, Blanks, Coverable};
+ghost use Rattle.run_build_row.specs.Contract.{Blanked, Placeable, StandsAlone, Makeable, Joinable, Makes, TermBuildable, TermBuilt};
 ghost use Rattle.run_build_row.specs.Sparse.{mayHold};
 
 // The column of the constant stands behind those of the terms.

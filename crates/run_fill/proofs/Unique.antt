@@ -29,5 +29,5 @@ filled-same {from} {end} {list = list} {list′} first second =
         first .outside k (inr beyond) ∙ sym (second .outside k (inr beyond))
 
 -- What the list holds afterwards is fixed, at every place. Said of the contract itself: of what the toolchain reads from it.
-pub fill-unique : Twice ps r Post λ κs a x y end end′. now (end .0) ≡ now (end′ .0)
+pub fill-unique : Twice ps r Post λ κs a x y (list, _) (list′, _). now list ≡ now list′
 fill-unique κs a x y end end′ first second = filled-same first second

@@ -2,7 +2,6 @@
 -- but theirs. Assumes nothing.
 use Rattle.run_build_row.proofs.Covering.{slot-fits, slot-there, constant-columns, gain-columns, sum-columns, difference-columns, unknown-columns}
 use Rattle.run_build_row.proofs.Inputs.{gain-below, sum-left, sum-right, difference-left, difference-right}
-use Rattle.run_table.specs.Sparse.{columnsOf}
 use borrow.Author.Needs.{needs}
 use Rattle.run_build_row.proofs.columns_of.Statement.{statement}
 use Rattle.run_build_row.proofs.columns_of.Tie as tie

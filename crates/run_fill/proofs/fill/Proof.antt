@@ -1,6 +1,5 @@
 -- `run_fill::fill` meets its contract: the places passed hold x, the others what they held. Assumes nothing.
 use borrow.Author.Needs.{needs}
-use native.Mathlib.Omega.{arith}
 use Prim.Native.Nat.{_-_}
 use mir.Syntax.{w32}
 use mir.Val.{toZ}

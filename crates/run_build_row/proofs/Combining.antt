@@ -6,7 +6,7 @@ use native.Mathlib.Omega.{arith}
 use Rattle.fraction.specs.declared.Fraction.{Fraction}
 use Rattle.fraction.specs.Exact.{value}
 use Rattle.fraction.specs.Limits.{plus, minus, times}
-use Rattle.fraction_reduce.specs.declared.Made.{Made}
+use Rattle.fraction_reduce.specs.declared.Tested.{Tested}
 use Rattle.fraction_reduce.specs.Values.{Good, Stands, Answers}
 use Rattle.rules_problem.specs.declared.Kind.{Kind}
 use Rattle.rules_problem.specs.declared.Kind.the-variants.{Gain, Sum, Difference}
@@ -32,15 +32,15 @@ module _ {kind : Kind} {t c : ℕ} {l : Lists} (asked : Combinable kind t c l) w
   earlier-good before read = earlier-stands before read .good
 
   -- the rule for the kind that the match found
-  found : {r : Made} {other : Kind} → kind ≡ other → Answers r (columnBuilt other t l c) → Answers r (columnBuilt kind t l c)
+  found : {r : Tested} {other : Kind} → kind ≡ other → Answers r (columnBuilt other t l c) → Answers r (columnBuilt kind t l c)
   found {r} is = subst (λ k. Answers r (columnBuilt k t l c)) (sym is)
 
-  pub gain-answers : {factor f : Fraction} {input : ℕ} {r : Made} → kind ≡ Gain factor input → f ≡ cellAt input c l → Answers r (times (value factor) (value f)) → Answers r (columnBuilt kind t l c)
+  pub gain-answers : {factor f : Fraction} {input : ℕ} {r : Tested} → kind ≡ Gain factor input → f ≡ cellAt input c l → Answers r (times (value factor) (value f)) → Answers r (columnBuilt kind t l c)
   unfolding builtColumn
   gain-answers {r = r} is read answers =
       found is (subst (Answers r) (ap (times _) (earlier-stands (gain-below (asked .term .inputs) is) read .same)) answers)
 
-  module _ {left right : ℕ} {f g : Fraction} {r : Made} where
+  module _ {left right : ℕ} {f g : Fraction} {r : Tested} where
     pub sum-answers : kind ≡ Sum left right → f ≡ cellAt left c l → g ≡ cellAt right c l → Answers r (plus (value f) (value g)) → Answers r (columnBuilt kind t l c)
     unfolding builtColumn
     sum-answers is first second answers =

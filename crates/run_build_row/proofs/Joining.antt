@@ -5,8 +5,8 @@ use mathlib.Core.List.{List}
 use Prim.Native.Nat.{ℕ, _+_, _*_}
 use native.Mathlib.Omega.{arith}
 use lib.IntN.{ℤ}
-use Rattle.set_extremes.specs.Ends.{Next}
-use Rattle.fraction_reduce.specs.declared.Made.{Made}
+use Rattle.set_extremes.specs.Extremes.{Next}
+use Rattle.fraction_reduce.specs.declared.Tested.{Tested}
 use Rattle.fraction_reduce.specs.Values.{Answers}
 use Rattle.rules_problem.specs.declared.Kind.{Kind}
 use Rattle.rules_run.specs.Row.{COLUMNS}
@@ -48,7 +48,7 @@ module _ {kind : Kind} {t columns : ℕ} {old : Lists} (asked : Joinable kind t 
         }
 
     -- And what it comes to is the rule's column of the rows as they were.
-    pub joining-answers : {r : Made} → Answers r (columnBuilt kind t (both nums dens) at) → Answers r (columnBuilt kind t old at)
+    pub joining-answers : {r : Tested} → Answers r (columnBuilt kind t (both nums dens) at) → Answers r (columnBuilt kind t old at)
     joining-answers {r} = subst (λ table. Answers r (builtColumn table t kind at)) (table-kept t (joining .going .making .kept))
 
   -- Over: the row is built, within the set.

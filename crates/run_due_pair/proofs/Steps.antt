@@ -12,7 +12,7 @@ use borrow.Author.Tests.{not-true, not-false}
 use lib.Dec.{eqb}
 use lib.ListN.{length, getD}
 use Rattle.set_members.specs.Sets.{holds}
-use Rattle.set_extremes.specs.Ends.{Next, Rest}
+use Rattle.set_extremes.specs.Extremes.{Next, Rest}
 use Rattle.set_extremes.proofs.Taken.{From, from-starts, from-first, from-here, from-rest}
 use Rattle.rules_problem.specs.declared.Term.{Term}
 use Rattle.rules_problem.specs.Lookup.{alike, kindAt}

@@ -10,7 +10,7 @@ use borrow.Author.Tests.{not-true, not-false}
 use lib.IntN.{ℤ, pos}
 use lib.ListN.{getD}
 use Rattle.set_members.specs.Sets.{holds}
-use Rattle.set_extremes.specs.Ends.{Last}
+use Rattle.set_extremes.specs.Extremes.{Last}
 use Rattle.fraction.specs.declared.Fraction.{Fraction}
 use Rattle.fraction.specs.Exact.{value, eqℚ}
 use Rattle.fraction_reduce.specs.Values.{Good}

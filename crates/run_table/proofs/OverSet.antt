@@ -12,14 +12,14 @@ use native.Mathlib.Omega.{arith}
 use lib.ListN.{length, set as stored-at}
 use lib.IntN.{ℤ}
 use Rattle.set_members.specs.Sets.{holds}
-use Rattle.set_extremes.specs.Ends.{Next, Rest}
+use Rattle.set_extremes.specs.Extremes.{Next, Rest}
 use Rattle.set_extremes.proofs.Taken.{From, from-starts, from-first, from-rest}
 use Rattle.fraction.specs.declared.Fraction.{Fraction}
 use Rattle.fraction.specs.Exact.{ℚ, value}
 use Rattle.fraction.specs.Made as rule
 use Rattle.fraction_reduce.specs.Values.{Good, Answers}
-use Rattle.fraction_reduce.specs.declared.Made.{Made}
-use Rattle.fraction_reduce.specs.declared.Made.the-variants.{Fits, Refused}
+use Rattle.fraction_reduce.specs.declared.Tested.{Tested}
+use Rattle.fraction_reduce.specs.declared.Tested.the-variants.{Fits, Refused}
 use Rattle.rules_run.specs.Row.{TERMS, COLUMNS}
 use Rattle.run_table.specs.declared.Step.{Step}
 use Rattle.run_table.specs.declared.Step.the-variants.{Done, Refused as Stopped}
@@ -91,7 +91,7 @@ module _ {g : ℕ → rule.Made ℕ ℚ} {base m set : ℕ} {nums₀ dens₀ : L
         false≢true (sym out ∙ ap (holds set) here ∙ next .inside (omega arith))
 
     -- A turn stores what answers the rule's column: one column more is made.
-    pub going-stores : {r : Made} {f : Fraction} {place : ℕ} {nums′ dens′ : List ℤ} → Answers r (g at) → r ≡ Fits f → place ≡ base + at → nums′ ≡ stored-at nums place (f .num) → dens′ ≡ stored-at dens place (f .den) → Going g base m set (at + 1) nums₀ dens₀ nums′ dens′
+    pub going-stores : {r : Tested} {f : Fraction} {place : ℕ} {nums′ dens′ : List ℤ} → Answers r (g at) → r ≡ Fits f → place ≡ base + at → nums′ ≡ stored-at nums place (f .num) → dens′ ≡ stored-at dens place (f .den) → Going g base m set (at + 1) nums₀ dens₀ nums′ dens′
     going-stores {f = f} {place} answers fits there num den =
         let kept = going .making .kept in
         let in-nums : place < length nums = omega (arith, next .most, going .nums-fit, kept .nums-length) in
@@ -120,7 +120,7 @@ module _ {g : ℕ → rule.Made ℕ ℚ} {base m set : ℕ} {nums₀ dens₀ : L
         }
 
     -- A turn is refused its column: so is the row.
-    pub going-stops : {r : Made} {number : ℕ} → Answers r (g at) → r ≡ Refused number → Gone g base m set (Stopped number) nums₀ dens₀ nums dens
+    pub going-stops : {r : Tested} {number : ℕ} → Answers r (g at) → r ≡ Refused number → Gone g base m set (Stopped number) nums₀ dens₀ nums dens
     going-stops answers refused = record { row-made = turn-stops going-skips answers refused (omega (arith, next .most)); spared = going .spared }
 
   -- After the constant's column the row is made.
@@ -140,14 +140,14 @@ module _ {g : ℕ → rule.Made ℕ ℚ} {base m set : ℕ} {nums₀ dens₀ : L
     pub taking-less : COLUMNS - (at + 1) < COLUMNS - c
     taking-less = omega (arith, taking-next .forward, first .most)
 
-    pub taking-stores : {after : ℕ} {r : Made} {f : Fraction} {place : ℕ} {nums′ dens′ : List ℤ} → Rest rest after → Answers r (g at) → r ≡ Fits f → place ≡ base + at → nums′ ≡ stored-at nums place (f .num) → dens′ ≡ stored-at dens place (f .den) → Taking g base m set (at + 1) after nums₀ dens₀ nums′ dens′
+    pub taking-stores : {after : ℕ} {r : Tested} {f : Fraction} {place : ℕ} {nums′ dens′ : List ℤ} → Rest rest after → Answers r (g at) → r ≡ Fits f → place ≡ base + at → nums′ ≡ stored-at nums place (f .num) → dens′ ≡ stored-at dens place (f .den) → Taking g base m set (at + 1) after nums₀ dens₀ nums′ dens′
     taking-stores left answers fits there num den =
         record { going = going-stores (taking .going) taking-next answers fits there num den; from = from-rest (omega arith) (taking .from) first left }
 
     pub taking-passes : {after : ℕ} → Rest rest after → g at ≡ rule.made (value (heldAt nums₀ dens₀ (base + at))) → Taking g base m set (at + 1) after nums₀ dens₀ nums dens
     taking-passes left stands = record { going = going-passes (taking .going) taking-next stands; from = from-rest (omega arith) (taking .from) first left }
 
-    pub taking-stops : {r : Made} {number : ℕ} → Answers r (g at) → r ≡ Refused number → Gone g base m set (Stopped number) nums₀ dens₀ nums dens
+    pub taking-stops : {r : Tested} {number : ℕ} → Answers r (g at) → r ≡ Refused number → Gone g base m set (Stopped number) nums₀ dens₀ nums dens
     taking-stops answers refused = going-stops (taking .going) taking-next answers refused
 
   pub taking-ends : {c rest : ℕ} {nums dens : List ℤ} → Taking g base m set c rest nums₀ dens₀ nums dens → COLUMNS ≤ c → Gone g base m set Done nums₀ dens₀ nums dens

@@ -1,42 +1,65 @@
--- The contracts of the build leave one answer, and one content of the lists.
--- Main results: `build-unique`, `note-call-unique`. Assume nothing.
+-- The contract of the build leaves one answer, and one content of the lists.
+-- Main result: `build-unique`. Assumes nothing.
 use mathlib.Core.Path.{_≡_, sym, _∙_}
 use mathlib.Core.List.{List}
-use Prim.Native.Nat.{ℕ, _+_, _*_}
-use lib.ListN.{set}
-use lib.IntN.{ℤ}
-use Rattle.rules_problem.specs.declared.Kind.{Kind}
-use Rattle.rules_problem.specs.declared.Term.{Term}
+use Prim.Native.Nat.{ℕ, _*_}
+use lib.ListN.{length}
+use Rattle.unique.specs.Twice.{TwiceAsked}
+use Rattle.record_reader.specs.Held.{Held}
+use Rattle.rules_run.specs.Row.{COLUMNS}
 use Rattle.run_table.specs.declared.Step.{Step}
 use Rattle.run_table.specs.declared.Step.the-variants.{Done}
-use Rattle.run_table.specs.Held.{tableAt}
-use Rattle.run_table.specs.Notes.{headOf, inputOf}
+use Rattle.run_table.specs.Calls.{NotesKept}
+use Rattle.run_table.specs.Lists.{both}
+use Rattle.run_table.specs.Work.{tableOf}
 use Rattle.run_table.proofs.Determined.{step-determined, done-determined, table-determined, lists-determined}
+use Rattle.run_table.proofs.SameEnd.{SameEnd, kept-alike}
 use Rattle.run_table.proofs.Unique.{calls-determined}
-use Rattle.run_build.specs.Built.{TableBuilt}
+use Rattle.run_build.specs.Contract.{Builds}
+use Rattle.run_build.specs.Store.{Store, lentAll}
+use Rattle.run_build.proofs.build.Kinds.{ps, r}
+use Rattle.run_build.proofs.build.Reads.{Pre, Post}
 
--- what `note_call` ensures
-abbrev pub CallNoted : (kind : Kind) (t : ℕ) (heads₀ inputs₀ heads inputs : List ℕ) → Type 0
-CallNoted kind t heads₀ inputs₀ heads inputs =
-    (heads ≡ set heads₀ t (headOf kind)) × (inputs ≡ set (set (set inputs₀ (3 * t) (inputOf kind 0)) (3 * t + 1) (inputOf kind 1)) (3 * t + 2) (inputOf kind 2))
+-- What two answers to one call leave alike: how it ends, both lists and what is noted of the lookups where it is done; where it is
+-- refused, every place but those of the n terms.
+pub record SameBuild (n : ℕ) (x y : Step) (new new′ : Store) : Type 0 where
+  pub rows : SameEnd 0 (COLUMNS * n) x y (both (new .work .nums) (new .work .dens)) (both (new′ .work .nums) (new′ .work .dens))
+  pub noted : x ≡ Done → (new .heads ≡ new′ .heads) × (new .inputs ≡ new′ .inputs)
+  pub notes : NotesKept n (new .heads) (new .inputs) (new′ .heads) (new′ .inputs)
+  pub size : length (new .work .sets) ≡ length (new′ .work .sets)
 
--- What `build` ensures fixes how it ends, and all four lists where it is done. (The sets noted beside them are hints: only that they
--- have room for the rows' columns and the lookups' links is promised; larger ones would give the same run, more slowly.) (Where it is refused, the places of the n terms may
--- hold anything: the run ends there, and nothing reads them but what clears them.)
-pub build-unique : (terms : List Term) (n : ℕ) {r s : Step} {nums₀ dens₀ nums dens nums′ dens′ : List ℤ} {heads₀ inputs₀ heads inputs heads′ inputs′ : List ℕ} (sets sets′ : List ℕ) → TableBuilt terms n r nums₀ dens₀ nums dens heads₀ inputs₀ heads inputs sets → TableBuilt terms n s nums₀ dens₀ nums′ dens′ heads₀ inputs₀ heads′ inputs′ sets′ → (r ≡ s) × (r ≡ Done → (nums ≡ nums′) × (dens ≡ dens′) × (heads ≡ heads′) × (inputs ≡ inputs′))
-build-unique terms n {r} {s} {nums = nums} {dens} {nums′} {dens′} sets sets′ first second =
-    let steps = step-determined r s (tableAt n nums dens) (tableAt n nums′ dens′) (first .ends) (second .ends) in (
-      steps,
-      λ done.
-          let also = sym steps ∙ done in
-          let (nums-same, dens-same) =
-          lists-determined (first .kept) (second .kept) λ k above below.
-          table-determined n (first .sound done) (second .sound also) (done-determined r s (tableAt n nums dens) (tableAt n nums′ dens′) (first .ends) (second .ends) done) k below
-          in
-          let (heads-same, inputs-same) = calls-determined (first .notes) (second .notes) (first .calls done) (second .calls also) in
-          (nums-same, dens-same, heads-same, inputs-same),
-    )
+-- Lists that keep what is noted behind n terms keep each other's.
+pub notes-alike : {n : ℕ} {heads₀ inputs₀ heads inputs heads′ inputs′ : List ℕ} → NotesKept n heads₀ inputs₀ heads inputs → NotesKept n heads₀ inputs₀ heads′ inputs′ → NotesKept n heads inputs heads′ inputs′
+notes-alike first second =
+    record {
+      heads-length = second .heads-length ∙ sym (first .heads-length);
+      inputs-length = second .inputs-length ∙ sym (first .inputs-length);
+      heads-beyond = λ k far. second .heads-beyond k far ∙ sym (first .heads-beyond k far);
+      inputs-beyond = λ k far. second .inputs-beyond k far ∙ sym (first .inputs-beyond k far);
+    }
 
--- No second content of the lists satisfies the contract of `note_call`.
-pub note-call-unique : (kind : Kind) (t : ℕ) (heads₀ inputs₀ : List ℕ) {heads inputs heads′ inputs′ : List ℕ} → CallNoted kind t heads₀ inputs₀ heads inputs → CallNoted kind t heads₀ inputs₀ heads′ inputs′ → (heads ≡ heads′) × (inputs ≡ inputs′)
-note-call-unique kind t heads₀ inputs₀ first second = (first .0 ∙ sym (second .0), first .1 ∙ sym (second .1))
+builds-same : {bytes : List ℕ} {n : ℕ} {x y : Step} {old new new′ : Store} → Held bytes → Builds bytes n x old new → Builds bytes n y old new′ → SameBuild n x y new new′
+builds-same {n = n} {x} {y} {new = new} {new′} held first second =
+    let table = tableOf n (new .work) in
+    let table′ = tableOf n (new′ .work) in
+    let ends = first .answers (held .problem) (held .same) in
+    let ends′ = second .answers (held .problem) (held .same) in
+    let alike = step-determined x y table table′ ends ends′ in
+    record {
+      rows = record {
+        answer = alike;
+        done = λ over. lists-determined (first .kept) (second .kept) λ k above below.
+            table-determined n (first .standing over .rows .sound) (second .standing (sym alike ∙ over) .rows .sound) (done-determined x y table table′ ends ends′ over) k below;
+        kept = kept-alike (first .kept) (second .kept);
+      };
+      noted = λ over. calls-determined (first .notes) (second .notes) (first .standing over .calls (held .problem) (held .same)) (second .standing (sym alike ∙ over) .calls (held .problem) (held .same));
+      notes = notes-alike (first .notes) (second .notes);
+      size = first .size ∙ sym (second .size);
+    }
+
+-- How the build ends is fixed, and so are both lists and what is noted of the lookups where it is done. Where it is refused, so is every
+-- place but those of the n terms, which may hold anything: the run ends there, and nothing reads them but what clears them. (The sets are
+-- hints: larger ones would give the same run, more slowly.) Said of the contract itself: of what the toolchain reads from it.
+pub build-unique : TwiceAsked ps r Pre Post λ κs (bytes, (n, _)) x y (_, (_, (nums, (dens, (heads, (inputs, (sets, _))))))) (_, (_, (nums′, (dens′, (heads′, (inputs′, (sets′, _))))))).
+    SameBuild n x y (lentAll nums dens heads inputs sets) (lentAll nums′ dens′ heads′ inputs′ sets′)
+build-unique κs a x y end end′ asked first second = builds-same (asked .held) first second

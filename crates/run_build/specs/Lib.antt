@@ -1,2 +1,3 @@
-pub mod Built
+pub mod Contract
 pub mod Links
+pub mod Store

@@ -1,17 +1,18 @@
 -- How far the links of the lookups are noted.
--- Main definitions: `InputsSmall`, `UsedBelow`, `Traced`, `Opened`, `Grown`. Assume nothing.
+-- Main definitions: `InputsSmall`, `UsedBelow`, `Traced`, `Opened`, `UsersGrown`. Assume nothing.
 use mathlib.Core.Path.{_≡_}
 use mathlib.Core.Logic.{_⊎_}
 use mathlib.Core.Bool.{true}
 use mathlib.Core.List.{List}
 use Prim.Native.Nat.{ℕ, _+_, _*_, _≤_, _<_}
-use lib.ListN.{getD}
+use lib.ListN.{length, getD}
 use Rattle.set_members.specs.Sets.{holds}
-use Rattle.run_table.specs.Sets.{usersOf, earlierOf, openOf}
+use Rattle.rules_run.specs.Row.{TERMS}
+use Rattle.run_table.specs.Sparse.{USERS, EARLIER, usersOf, earlierOf, openOf}
 
--- each input noted of the terms below n has a set of users: it is below 64
+-- each input noted of the terms below n has a set of users: it is the number of a term
 pub record InputsSmall (n : ℕ) (inputs : List ℕ) : Type 0 where
-  pub small : (k : ℕ) → k < 3 * n → getD inputs k 0 < 64
+  pub small : (k : ℕ) → k < 3 * n → getD inputs k 0 < TERMS
 
 -- lookup t is noted as a user of its inputs in the first `count` places
 pub record UsedBelow (count t : ℕ) (inputs sets : List ℕ) : Type 0 where
@@ -26,6 +27,7 @@ pub record Opened (n : ℕ) (heads sets : List ℕ) : Type 0 where
   pub inside : (j : ℕ) → j < n → (getD heads j 0 ≡ 0 → ⊥) → holds (openOf sets) j ≡ true
 
 -- Some sets of users have grown; no other set has changed.
-pub record Grown (sets₀ sets : List ℕ) : Type 0 where
+pub record UsersGrown (sets₀ sets : List ℕ) : Type 0 where
+  pub same-length : length sets ≡ length sets₀
   pub more : (k j : ℕ) → holds (getD sets₀ k 0) j ≡ true → holds (getD sets k 0) j ≡ true
-  pub others : (k : ℕ) → (k < 64) ⊎ (128 ≤ k) → getD sets k 0 ≡ getD sets₀ k 0
+  pub others : (k : ℕ) → (k < USERS) ⊎ (EARLIER ≤ k) → getD sets k 0 ≡ getD sets₀ k 0

@@ -1,11 +1,9 @@
 // The lookups as numbers.
 use rules_problem::Kind;
 use rules_problem::Term;
-ghost use mathlib.Core.Path.{_≡_};
-ghost use Prim.Native.Nat.{_+_, _*_, _<_};
-ghost use lib.ListN.{length, set};
-ghost use Rattle.run_table.specs.Notes.{headOf, inputOf};
+ghost use Rattle.rules_run.specs.Row.{TERMS};
 ghost use Rattle.run_build_row.specs.Buildable.{Below};
+ghost use Rattle.run_build.specs.Contract.{Numbered, Notable, CallNoted};
 
 // A lookup's head, 256 for each input plus the symbol, and its inputs; 0 where there is none.
 struct Numbers {
@@ -16,8 +14,8 @@ struct Numbers {
 }
 
 fn numbers_of(kind: Kind) -> Numbers
-    requires { ⌜ Below 64 kind ⌝ }
-    ensures { λ r. ⌜ (r .head ≡ headOf kind) × (r .first ≡ inputOf kind 0) × (r .second ≡ inputOf kind 1) × (r .third ≡ inputOf kind 2) ⌝ }
+    requires { ⌜ Below TERMS kind ⌝ }
+    ensures { λ r. ⌜ Numbered kind r ⌝ }
 {
     match kind {
         Kind::Lookup1 { symbol, input } => Numbers {
@@ -58,10 +56,8 @@ fn numbers_of(kind: Kind) -> Numbers
 
 // The head of term t at place t, its inputs at 3t, 3t + 1 and 3t + 2.
 pub(crate) fn note_call(term: Term, t: usize, heads: &mut [u16], inputs: &mut [u8])
-    requires { ⌜ (t < 64) × (length (now heads) ≡ 64) × (length (now inputs) ≡ 192) ⌝ }
-    requires { ⌜ Below t (term .kind) ⌝ }
-    ensures { λ r. ⌜ now (heads .exit) ≡ set (now (heads .entry)) t (headOf (term .kind)) ⌝ }
-    ensures { λ r. ⌜ now (inputs .exit) ≡ set (set (set (now (inputs .entry)) (3 * t) (inputOf (term .kind) 0)) (3 * t + 1) (inputOf (term .kind) 1)) (3 * t + 2) (inputOf (term .kind) 2) ⌝ }
+    requires { ⌜ Notable (term .kind) t (now heads) (now inputs) ⌝ }
+    ensures { λ r. ⌜ CallNoted (term .kind) t (now (heads .entry)) (now (inputs .entry)) (now (heads .exit)) (now (inputs .exit)) ⌝ }
 {
     let kind = term.kind;
     let numbers = numbers_of(kind);

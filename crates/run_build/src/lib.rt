@@ -8,14 +8,8 @@ use record_items::term_at;
 use run_build_row::build_term;
 use run_table::PENDING;
 use run_table::Step;
-ghost use mathlib.Core.Path.{_≡_};
-ghost use Prim.Native.Nat.{_≤_};
-ghost use lib.ListN.{length};
-ghost use Rattle.fraction.specs.Made.{made};
-ghost use Rattle.rules_problem.specs.Bits.{field};
-ghost use Rattle.rules_problem.specs.Problem.{Problem, decoded};
-ghost use Rattle.record_reader.specs.Held.{Held};
-ghost use Rattle.run_build.specs.Built.{TableBuilt};
+ghost use Rattle.run_build.specs.Contract.{Beginnable, Builds};
+ghost use Rattle.run_build.specs.Store.{lentAll, enteredAll, leavingAll};
 
 // The rows, the calls and the links of the n terms that the bytes hold, until a row is refused. At the end every lookup is open, and
 // one that closing has to look at. The users of a term are added to what its set holds at entry.
@@ -28,12 +22,8 @@ pub fn build(
     inputs: &mut [u8],
     sets: &mut [u64],
 ) -> Step
-    requires { ⌜ Held (now bytes) ⌝ }
-    requires { ⌜ n ≡ field (now bytes) 0 8 ⌝ }
-    requires { ⌜ (4160 ≤ length (now nums)) × (4160 ≤ length (now dens)) ⌝ }
-    requires { ⌜ (length (now heads) ≡ 64) × (length (now inputs) ≡ 192) ⌝ }
-    requires { ⌜ length (now sets) ≡ 194 ⌝ }
-    ensures { λ r. ⌜ ((problem : Problem) → decoded (now (bytes .entry)) ≡ made problem → TableBuilt (problem .terms) n r (now (nums .entry)) (now (dens .entry)) (now (nums .exit)) (now (dens .exit)) (now (heads .entry)) (now (inputs .entry)) (now (heads .exit)) (now (inputs .exit)) (now (sets .exit))) ⌝ }
+    requires { ⌜ Beginnable (now bytes) n (lentAll nums dens heads inputs sets) ⌝ }
+    ensures { λ r. ⌜ Builds (now (bytes .entry)) n r (enteredAll nums dens heads inputs sets) (leavingAll nums dens heads inputs sets) ⌝ }
 {
     let mut t: usize = 0;
     while t < n {

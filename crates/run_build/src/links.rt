@@ -3,19 +3,12 @@
 use run_table::EARLIER;
 use run_table::OPEN;
 use run_table::USERS;
-ghost use mathlib.Core.Path.{_≡_};
-ghost use mathlib.Core.Bool.{true};
-ghost use Prim.Native.Nat.{ℕ, _+_, _<_};
-ghost use lib.ListN.{length, getD};
-ghost use Rattle.set_members.specs.Sets.{holds};
-ghost use Rattle.run_table.specs.Sets.{usersOf, Linked};
-ghost use Rattle.run_build.specs.Links.{InputsSmall, UsedBelow, Traced, Opened, Grown};
+ghost use Rattle.run_build.specs.Contract.{Usable, UserNoted, AllUsable, UsersNoted, Traceable, EarlierFound, Linkable, LinksNoted};
 
 // Lookup t uses this input.
 fn note_user(input: u8, t: usize, sets: &mut [u64])
-    requires { ⌜ (t < 64) × (input < 64) × (length (now sets) ≡ 194) ⌝ }
-    ensures { λ r. ⌜ Grown (now (sets .entry)) (now (sets .exit)) ⌝ }
-    ensures { λ r. ⌜ holds (usersOf (now (sets .exit)) input) t ≡ true ⌝ }
+    requires { ⌜ Usable input t (now sets) ⌝ }
+    ensures { λ r. ⌜ UserNoted input t (now (sets .entry)) (now (sets .exit)) ⌝ }
 {
     let place = USERS + input as usize;
     let users = set_members::with(sets[place], t);
@@ -24,10 +17,8 @@ fn note_user(input: u8, t: usize, sets: &mut [u64])
 
 // Lookup t uses what stands in its three places. One without an input holds 0, so that t is noted as a user of term 0 too.
 fn note_users(t: usize, inputs: &[u8], sets: &mut [u64])
-    requires { ⌜ (t < 64) × (length (now inputs) ≡ 192) × (length (now sets) ≡ 194) ⌝ }
-    requires { ⌜ InputsSmall (t + 1) (now inputs) ⌝ }
-    ensures { λ r. ⌜ Grown (now (sets .entry)) (now (sets .exit)) ⌝ }
-    ensures { λ r. ⌜ UsedBelow 3 t (now (inputs .entry)) (now (sets .exit)) ⌝ }
+    requires { ⌜ AllUsable t (now inputs) (now sets) ⌝ }
+    ensures { λ r. ⌜ UsersNoted t (now (inputs .entry)) (now (sets .entry)) (now (sets .exit)) ⌝ }
 {
     let mut i: usize = 0;
     while i < 3 {
@@ -38,10 +29,8 @@ fn note_users(t: usize, inputs: &[u8], sets: &mut [u64])
 
 // The lookups before t with its head: the latest of them, and those noted for it.
 fn earlier_of(heads: &[u16], sets: &[u64], t: usize) -> u64
-    requires { ⌜ (t < 64) × (length (now heads) ≡ 64) × (length (now sets) ≡ 194) ⌝ }
-    requires { ⌜ Traced t (now heads) (now sets) ⌝ }
-    requires { ⌜ (getD (now heads) t 0 ≡ 0 → ⊥) ⌝ }
-    ensures { λ r. ⌜ ((i : ℕ) → i < t → getD (now (heads .entry)) i 0 ≡ getD (now (heads .entry)) t 0 → holds r i ≡ true) ⌝ }
+    requires { ⌜ Traceable t (now heads) (now sets) ⌝ }
+    ensures { λ r. ⌜ EarlierFound t (now (heads .entry)) r ⌝ }
 {
     let head = heads[t];
     let mut i = t;
@@ -56,13 +45,8 @@ fn earlier_of(heads: &[u16], sets: &[u64], t: usize) -> u64
 
 // Term t, whose head and inputs are noted, is linked, if it is a lookup.
 pub(crate) fn note_links(t: usize, heads: &[u16], inputs: &[u8], sets: &mut [u64])
-    requires { ⌜ (t < 64) × (length (now heads) ≡ 64) × (length (now inputs) ≡ 192) × (length (now sets) ≡ 194) ⌝ }
-    requires { ⌜ InputsSmall (t + 1) (now inputs) ⌝ }
-    requires { ⌜ Linked t (now heads) (now inputs) (now sets) ⌝ }
-    requires { ⌜ Opened t (now heads) (now sets) ⌝ }
-    ensures { λ r. ⌜ Linked (t + 1) (now (heads .entry)) (now (inputs .entry)) (now (sets .exit)) ⌝ }
-    ensures { λ r. ⌜ Opened (t + 1) (now (heads .entry)) (now (sets .exit)) ⌝ }
-    ensures { λ r. ⌜ ((k : ℕ) → k < 64 → getD (now (sets .exit)) k 0 ≡ getD (now (sets .entry)) k 0) ⌝ }
+    requires { ⌜ Linkable t (now heads) (now inputs) (now sets) ⌝ }
+    ensures { λ r. ⌜ LinksNoted t (now (heads .entry)) (now (inputs .entry)) (now (sets .entry)) (now (sets .exit)) ⌝ }
 {
     if heads[t] == 0 {
         return;

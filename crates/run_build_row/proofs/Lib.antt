@@ -1,5 +1,11 @@
 pub mod Alone
 pub mod Building
 pub mod Columns
+pub mod Combining
+pub mod Covering
+pub mod Inputs
+pub mod Joining
+pub mod Lowering
 pub mod Sparse
+pub mod Term
 pub mod Unique

@@ -1,4 +1,3 @@
 pub mod Buildable
-pub mod Built
-pub mod Lowered
+pub mod Contract
 pub mod Sparse

@@ -12,7 +12,8 @@ use Rattle.fraction.specs.Exact.{ℚ, zeroℚ}
 use Rattle.fraction.specs.Made.{Made, made}
 use Rattle.rules_problem.specs.declared.Kind.{Kind}
 use Rattle.rules_problem.specs.declared.Kind.the-variants.{Variable, Constant, Gain, Sum, Difference, Lookup1, Lookup2, Lookup3}
-use Rattle.run_table.specs.Sets.{columnsOf}
+use Rattle.rules_run.specs.Row.{TERMS, COLUMNS}
+use Rattle.run_table.specs.Sparse.{columnsOf}
 
 -- Whether column c, one of a term, can hold something else than 0 in the row of term `own`: an unknown stands in its own column, and
 -- what is made of earlier rows has no columns but theirs.
@@ -28,9 +29,9 @@ mayHold sets own (Lookup3 symbol first second third) c = eqb c own
 
 -- The rule makes 0 of each term's column that is not in the set.
 pub record Covered (columns : ℕ) (rule : ℕ → Made ℕ ℚ) : Type 0 where
-  pub zero : (c : ℕ) → c < 64 → holds columns c ≡ false → rule c ≡ made zeroℚ
+  pub zero : (c : ℕ) → c < TERMS → holds columns c ≡ false → rule c ≡ made zeroℚ
 
 -- Row t holds 0/1 in every column.
 pub record Blank (t : ℕ) (nums dens : List ℤ) : Type 0 where
-  pub num : (c : ℕ) → c < 65 → getD nums (65 * t + c) (pos 0) ≡ pos 0
-  pub den : (c : ℕ) → c < 65 → getD dens (65 * t + c) (pos 0) ≡ pos 1
+  pub num : (c : ℕ) → c < COLUMNS → getD nums (COLUMNS * t + c) (pos 0) ≡ pos 0
+  pub den : (c : ℕ) → c < COLUMNS → getD dens (COLUMNS * t + c) (pos 0) ≡ pos 1

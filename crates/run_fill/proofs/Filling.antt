@@ -1,15 +1,18 @@
--- How a fill begins and goes on, that two fills are one, and that its contract leaves one list.
--- Main results: `filling-starts`, `filling-goes-on`, `fills-join`, `fill-unique`. Assume nothing.
-use mathlib.Core.Path.{_≡_, refl, sym, ap, _∙_}
+-- How a fill begins and goes on, and that a fill and one from where it ended are one.
+-- Main definition: `Filling`. Main results: `filling-starts`, `filling-goes-on`, `filling-begins`, `filling-turns`, `filling-ends`, `fills-join`. Assume nothing.
+use mathlib.Core.Path.{_≡_, refl, ap, _∙_}
 use mathlib.Core.Logic.{_⊎_, inl, inr, _≢_}
 use mathlib.Core.List.{List}
 use Prim.Native.Nat.{ℕ, _+_, _≤_, _<_}
 use native.Mathlib.Decide.{ℕ-discrete, decLt}
 use native.Mathlib.Omega.{arith}
 use lib.ListN.{length, getD, set, length-set}
-use lib.Seq.{getD-set-same, getD-set-other, ext-getD}
+use lib.Seq.{getD-set-same, getD-set-other}
 use lib.IntN.{ℤ, pos}
-use Rattle.run_fill.specs.Filled.{Filled}
+use mir.Syntax.{w32}
+use mir.Facts.{toZ-ofZ}
+use mir.Val.{SFits, toZ, ofZ}
+use Rattle.run_fill.specs.Contract.{Fillable, Filled}
 
 pub filling-starts : (from : ℕ) (x : ℤ) (list : List ℤ) → Filled from from x list list
 filling-starts from x list =
@@ -35,6 +38,27 @@ filling-goes-on from k x before list low high filled =
     wider l (inl h) = inl h
     wider l (inr h) = inr (omega arith)
 
+-- In the loop: the places below k are filled.
+pub record Filling (from end k : ℕ) (x : ℤ) (before list : List ℤ) : Type 0 where
+  pub low : from ≤ k
+  pub high : k ≤ end
+  pub filled : Filled from k x before list
+
+pub filling-begins : {from end : ℕ} {x : ℤ} {list : List ℤ} → Fillable from end list → Filling from end from x list list
+filling-begins {from} {x = x} {list = list} asked = record { low = omega arith; high = asked .order; filled = filling-starts from x list }
+
+-- One place more.
+pub filling-turns : {from end k : ℕ} {x : ℤ} {before list : List ℤ} → Fillable from end before → Filling from end k x before list → k < end → Filling from end (k + 1) x before (set list k x)
+filling-turns asked filling on =
+    let sized = filling .filled .same-length in
+    record { low = omega arith; high = omega arith; filled = filling-goes-on _ _ _ _ _ (filling .low) (omega arith) (filling .filled) }
+
+-- The loop is over; x fits 32 bits, so that it is the number that the bits of the code stand for.
+pub filling-ends : {from end k : ℕ} {x : ℤ} {before list : List ℤ} → SFits w32 x → Filling from end k (toZ w32 (ofZ w32 x)) before list → end ≤ k → Filled from end x before list
+filling-ends {from} {end} {k} fits filling over =
+    let all : k ≡ end = omega arith in
+    rw (← all, ← toZ-ofZ fits) (filling .filled)
+
 -- A fill, and one from where it ended, are one fill.
 pub fills-join : (from middle end : ℕ) {x : ℤ} {before between after : List ℤ} → from ≤ middle → middle ≤ end → Filled from middle x before between → Filled middle end x between after → Filled from end x before after
 fills-join from middle end {x} {before} {between} {after} low high first second =
@@ -55,17 +79,3 @@ fills-join from middle end {x} {before} {between} {after} low high first second 
     right-of : (k : ℕ) → (k < from) ⊎ (end ≤ k) → (k < from) ⊎ (middle ≤ k)
     right-of k (inl h) = inl h
     right-of k (inr h) = inr (omega arith)
-
--- No second list is filled so.
-pub fill-unique : (from end : ℕ) (x : ℤ) (before list list′ : List ℤ) → Filled from end x before list → Filled from end x before list′ → list ≡ list′
-fill-unique from end x before list list′ f f′ =
-    ext-getD (pos 0) list list′ (f .same-length ∙ sym (f′ .same-length)) (λ k below. by k (decLt k from) (decLt k end))
-  where
-    by : (k : ℕ) → Dec (k < from) → Dec (k < end) → getD list k (pos 0) ≡ getD list′ k (pos 0)
-    by k (yes low) high = f .outside k (inl low) ∙ sym (f′ .outside k (inl low))
-    by k (no low) (yes high) =
-        let from-low : from ≤ k = omega arith in
-        f .inside k from-low high ∙ sym (f′ .inside k from-low high)
-    by k (no low) (no high) =
-        let beyond : end ≤ k = omega arith in
-        f .outside k (inr beyond) ∙ sym (f′ .outside k (inr beyond))

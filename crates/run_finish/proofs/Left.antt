@@ -16,7 +16,7 @@ use Rattle.fraction_reduce.proofs.Lowest.{value-num, value-den}
 use Rattle.rules_run.specs.Row.{TERMS, COLUMNS, column, rowOf, cell, PLACES}
 use Rattle.run_table.specs.Held.{heldAt, rowAt, tableAt, SoundTo}
 use Rattle.run_table.proofs.Columns.{column-held, row-held, table-length}
-use Rattle.run_fill.specs.Filled.{Filled}
+use Rattle.run_fill.specs.Contract.{Filled}
 use Rattle.rules_outcome.specs.Outcome.{finished, cutShort, after, laidOut}
 use Rattle.rules_outcome.proofs.Laid.{laid-out-is}
 use Rattle.run_finish.specs.Leaves.{leaves}

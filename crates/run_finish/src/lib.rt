@@ -7,7 +7,7 @@ ghost use mathlib.Core.Path.{_≡_};
 ghost use Prim.Native.Nat.{_*_, _<_, _≤_};
 ghost use lib.ListN.{length};
 ghost use lib.IntN.{pos};
-ghost use Rattle.run_fill.specs.Filled.{Filled};
+ghost use Rattle.run_fill.specs.Contract.{Filled};
 ghost use Rattle.rules_problem.specs.Problem.{Pair};
 ghost use Rattle.rules_run.specs.Run.{judged};
 ghost use Rattle.rules_outcome.specs.Outcome.{finished, cutShort, after};

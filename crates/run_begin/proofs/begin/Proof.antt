@@ -1,37 +1,34 @@
 -- `run_begin::begin` meets its contract. Assumes nothing.
-use native.Mathlib.Omega.{arith}
 use borrow.Author.Needs.{needs}
-use Rattle.run_progress.proofs.Going.{counted-more}
-use Rattle.run_begin.proofs.Stages.{few-terms, begins-refused, begin-rests, begins-closed}
+use Rattle.run_begin.proofs.Stages.{begins-refused, begin-closable, begin-counted, begins-closed}
 use Rattle.run_begin.proofs.begin.Statement.{statement}
 use Rattle.run_begin.proofs.begin.Tie as tie
 
--- where the function began
+-- the places of the function, each from the one after it
+abbrev built : tie.After-enum-told → tie.After-build
+built d = search
+
 abbrev start : tie.After-build → tie.Start
 start b = search
 
 build-requires : tie.Need-build-requires
-build-requires c κs =
-    let s : tie.Start = search in
-    let asked = s .pre in
-    (asked .held, (asked .terms, ((asked .nums-fit, asked .dens-fit), ((asked .heads-size, asked .inputs-size), asked .sets-size))))
+build-requires c κs = search needs
 
 enum-told : tie.Need-enum-told
 enum-told c = search needs
 
 close-requires : tie.Need-close-requires
 close-requires c κs =
-    let told : tie.After-enum-told = search in
-    let b : tie.After-build = search in
-    let s = start b in
-    record { resting = begin-rests (s .pre) (b .build .ensures) (told .enum-told .given .1) (omega (arith, b .build .kept, s .pre)) (omega (arith, b .build .kept, s .pre)) (omega (arith, b .build .kept, s .pre)); few-solved = omega arith }
+    let d : tie.After-enum-told = search in
+    let b = built d in
+    begin-closable (start b .pre) (b .build .ensures) (d .enum-told .given .1)
 
 placed-requires : tie.Need-placed-requires
 placed-requires c κs =
     let k : tie.After-close = search in
-    let b : tie.After-build = search in
-    let s = start b in
-    counted-more _ (omega (arith, few-terms (s .pre))) (k .close .ensures .counted)
+    let d : tie.After-enum-told = search in
+    let b = built d in
+    begin-counted (start b .pre) (b .build .ensures) (d .enum-told .given .1) (k .close .ensures)
 
 enum-known-number : tie.Need-enum-known-number
 enum-known-number c = search needs
@@ -54,10 +51,9 @@ same-length-5 c = search needs
 returns : tie.Need-returns
 returns c =
     let k : tie.After-close = search in
-    let told : tie.After-enum-told = search in
-    let b : tie.After-build = search in
-    let s = start b in
-    begins-closed (s .pre) (b .build .ensures) (told .enum-told .given .1) (omega (arith, b .build .kept, s .pre)) (omega (arith, b .build .kept, s .pre)) (omega (arith, b .build .kept, s .pre)) (k .close .ensures) (c .placed .ensures)
+    let d : tie.After-enum-told = search in
+    let b = built d in
+    begins-closed (start b .pre) (b .build .ensures) (d .enum-told .given .1) (k .close .ensures) (c .placed .ensures)
 
 same-length-6 : tie.Need-same-length-6
 same-length-6 c = search needs

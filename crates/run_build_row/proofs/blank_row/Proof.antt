@@ -1,11 +1,6 @@
 -- `run_build_row::blank_row` meets its contract: the constant's column makes the fill of the terms' columns one of the whole row.
 -- Assumes nothing.
-use Rattle.run_fill.proofs.Filling.{filling-goes-on}
-use Rattle.run_build_row.proofs.Sparse.{filled-kept, filled-blank}
-use mathlib.Core.Path.{_≡_}
-use native.Mathlib.Omega.{arith}
-use Prim.Native.Nat.{_+_, _*_}
-use lib.IntN.{pos}
+use Rattle.run_build_row.proofs.Sparse.{blanks}
 use borrow.Author.Needs.{needs}
 use Rattle.run_build_row.proofs.blank_row.Statement.{statement}
 use Rattle.run_build_row.proofs.blank_row.Tie as tie
@@ -41,14 +36,7 @@ same-length-2 : tie.Need-same-length-2
 same-length-2 c = search needs
 
 returns : tie.Need-returns
-returns c =
-    let second = c .before in
-    let stored = second .before .before in
-    let first = stored .before in
-    let t = first .before .before .args .t in
-    let whole : 65 * t + 64 + 1 ≡ 65 * t + 65 = omega arith in
-    let zeros = rw whole at (filling-goes-on (65 * t) (65 * t + 64) (pos 0) _ _ (omega arith) (search needs) (first .fill .ensures)) in
-    (filled-kept t zeros (second .fill2 .ensures), filled-blank t zeros (second .fill2 .ensures))
+returns c = search blanks
 
 pub blank-row-spec : {M : Type 1} → statement M
 blank-row-spec =

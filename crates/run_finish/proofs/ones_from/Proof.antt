@@ -1,5 +1,5 @@
 -- `run_finish::ones_from` meets its contract: the fills of the rows are one fill. Assumes nothing.
-use Rattle.run_fill.specs.Filled.{Filled}
+use Rattle.run_fill.specs.Contract.{Filled}
 use Rattle.run_fill.proofs.Filling.{filling-starts, fills-join}
 use native.Mathlib.Omega.{arith}
 use mathlib.Core.Path.{_≡_}

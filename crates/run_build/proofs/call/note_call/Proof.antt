@@ -1,4 +1,5 @@
-use Rattle.run_build.proofs.Noted.{below-more}
+-- `run_build::call::note_call` meets its contract. Assumes nothing.
+use Rattle.run_build.proofs.Noted.{notable-below, numbers-noted}
 use lib.ListN.{length-set}
 use native.Mathlib.Omega.{arith}
 use borrow.Author.Needs.{needs}
@@ -6,7 +7,7 @@ use Rattle.run_build.proofs.call.note_call.Statement.{statement}
 use Rattle.run_build.proofs.call.note_call.Tie as tie
 
 numbers-of-requires : tie.Need-numbers-of-requires
-numbers-of-requires c κs = let s = c .before .before in below-more (s .args .term .kind) (omega arith) (s .pre .1)
+numbers-of-requires c κs = search notable-below
 
 mul-heads : tie.Need-mul-heads
 mul-heads c = search needs
@@ -45,7 +46,7 @@ same-length-2 : tie.Need-same-length-2
 same-length-2 c = search needs
 
 returns : tie.Need-returns
-returns c = let noted = c .numbers-of .ensures in (rw (noted .0), rw (noted .1, noted .2, noted .3))
+returns c = search numbers-noted
 
 pub note-call-spec : {M : Type 1} → statement M
 note-call-spec =

@@ -1,16 +1,11 @@
-use Rattle.run_build.proofs.Linking.{earlier-found, head-passed}
-use Rattle.run_table.specs.Sets.{earlierOf}
-use native.Mathlib.Omega.{arith}
-use Prim.Native.Nat.{ℕ, _-_, _≤_, _<_}
-use lib.ListN.{getD}
-use mathlib.Core.Path.{_≡_}
+-- `run_build::links::earlier_of` meets its contract. Assumes nothing.
+use Rattle.run_build.proofs.Linking.{Passing, passing-starts, passing-finds, passing-more, passing-ends}
 use borrow.Author.Needs.{needs}
 use Rattle.run_build.proofs.links.earlier_of.Statement.{statement}
 use Rattle.run_build.proofs.links.earlier_of.Tie as tie
 
--- No lookup from i on has the head of t.
 abbrev Inv-loop : tie.InvT-loop
-Inv-loop heads sets t head i₀ i = (i ≤ t) × ((k : ℕ) → i ≤ k → k < t → getD heads k 0 ≡ getD heads t 0 → ⊥)
+Inv-loop heads sets t head i₀ i = Passing i t heads
 
 abbrev μ-loop : tie.MeasureT-loop
 μ-loop heads sets t head i₀ i = i
@@ -22,7 +17,7 @@ shared-slice-read-head : tie.Need-shared-slice-read-head Inv-loop μ-loop
 shared-slice-read-head c = search needs
 
 loop-holds : tie.Need-loop-holds Inv-loop μ-loop
-loop-holds c = (omega arith, λ k above below same. omega arith)
+loop-holds c = search passing-starts
 
 sub-i : tie.Need-sub-i Inv-loop μ-loop
 sub-i c = search needs
@@ -46,25 +41,16 @@ with-requires : tie.Need-with-requires Inv-loop μ-loop
 with-requires c κs = search needs
 
 returns : tie.Need-returns Inv-loop μ-loop
-unfolding earlierOf
-returns c k below same =
-    let found = c .before .before in
-    let turn = found .before .before in
-    let l = turn .before in
-    let s = l .before .before .before .before in
-    earlier-found (l .loop .i - 1) (c .with .result) (s .pre .1 .0) (s .pre .1 .1) (omega arith) (found .if1 .taken) (λ j above. l .loop .inv .1 j (omega arith)) (c .with .ensures) k below same
+returns c = search passing-finds
 
 loop-less : tie.Need-loop-less Inv-loop μ-loop
 loop-less c = search needs
 
 loop-again : tie.Need-loop-again Inv-loop μ-loop
-loop-again c =
-    let l = c .before .before .before in
-    let s = l .before .before .before .before in
-    (omega arith, head-passed (s .args .heads .now) (s .args .t) (l .loop .i - 1) (c .if1 .left) (λ k above. l .loop .inv .1 k (omega arith)))
+loop-again c = search passing-more
 
 returns-2 : tie.Need-returns-2 Inv-loop μ-loop
-returns-2 c k below same = absurd (c .before .loop .inv .1 k (omega arith) below same)
+returns-2 c = search passing-ends
 
 pub earlier-of-spec : {M : Type 1} → statement M
 earlier-of-spec =

@@ -1,7 +1,5 @@
-use Rattle.run_build.proofs.Linking.{user-grown, user-there}
-use Rattle.run_table.specs.Sets.{usersOf}
-use native.Mathlib.Omega.{arith}
-use Prim.Native.Nat.{_+_}
+-- `run_build::links::note_user` meets its contract. Assumes nothing.
+use Rattle.run_build.proofs.Linking.{user-noted}
 use borrow.Author.Needs.{needs}
 use Rattle.run_build.proofs.links.note_user.Statement.{statement}
 use Rattle.run_build.proofs.links.note_user.Tie as tie
@@ -28,13 +26,7 @@ same-length : tie.Need-same-length
 same-length c = search needs
 
 returns : tie.Need-returns
-unfolding usersOf
-returns c =
-    let s = c .before .before .before in
-    let place = 64 + s .args .input in
-    let sets = s .args .sets .now in
-    let users = c .with .result in
-    (user-grown sets place (s .args .t) users (omega arith) (omega arith) (omega arith) (c .with .ensures), user-there sets place (s .args .t) users (omega arith) (omega arith) (omega arith) (c .with .ensures))
+returns c = search user-noted
 
 pub note-user-spec : {M : Type 1} → statement M
 note-user-spec =

@@ -1,0 +1,39 @@
+-- What a term that can be built has for the kind that a match found: inputs below its own number, and a fraction as it should be.
+-- Main results: `gain-below`, `sum-left`, `sum-right`, `difference-left`, `difference-right`, `constant-holds`, `gain-holds`. Assume nothing.
+use mathlib.Core.Path.{_≡_, subst}
+use Prim.Native.Nat.{ℕ, _<_}
+use Rattle.fraction.specs.declared.Fraction.{Fraction}
+use Rattle.rules_problem.specs.declared.Kind.{Kind}
+use Rattle.rules_problem.specs.declared.Kind.the-variants.{Constant, Gain, Sum, Difference}
+use Rattle.run_build_row.specs.Buildable.{Holding, Below}
+
+module _ {own : ℕ} {kind : Kind} (inputs : Below own kind) where
+  pub gain-below : {factor : Fraction} {input : ℕ} → kind ≡ Gain factor input → input < own
+  unfolding Below
+  gain-below is = subst (Below own) is inputs
+
+  pub sum-left : {left right : ℕ} → kind ≡ Sum left right → left < own
+  unfolding Below
+  sum-left is = subst (Below own) is inputs .0
+
+  pub sum-right : {left right : ℕ} → kind ≡ Sum left right → right < own
+  unfolding Below
+  sum-right is = subst (Below own) is inputs .1
+
+  pub difference-left : {left right : ℕ} → kind ≡ Difference left right → left < own
+  unfolding Below
+  difference-left is = subst (Below own) is inputs .0
+
+  pub difference-right : {left right : ℕ} → kind ≡ Difference left right → right < own
+  unfolding Below
+  difference-right is = subst (Below own) is inputs .1
+
+-- A constant and a gain hold their fraction as the term has it: in lowest terms, or as the record has it.
+module _ (P : Fraction → Type 0) {kind : Kind} (fraction : Holding P kind) where
+  pub constant-holds : {f : Fraction} → kind ≡ Constant f → P f
+  unfolding Holding
+  constant-holds is = subst (Holding P) is fraction
+
+  pub gain-holds : {factor : Fraction} {input : ℕ} → kind ≡ Gain factor input → P factor
+  unfolding Holding
+  gain-holds is = subst (Holding P) is fraction

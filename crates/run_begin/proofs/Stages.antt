@@ -17,16 +17,16 @@ use Rattle.rules_run.specs.Close.{close}
 use Rattle.rules_run.specs.Run.{byNumber, ends, begin}
 use Rattle.run_table.specs.declared.Step.{Step}
 use Rattle.run_table.specs.declared.Step.the-variants.{Done, Refused as Stopped}
-use Rattle.run_table.specs.Calls.{Lookups}
+use Rattle.run_table.specs.Notes.{Lookups}
 use Rattle.run_table.specs.Held.{tableAt}
 use Rattle.run_table.specs.Work.{Work, tableOf, Resting}
 use Rattle.run_table.proofs.Columns.{kept-then}
-use Rattle.run_table.proofs.Turns.{finished-done, finished-refused}
+use Rattle.run_table.proofs.Turns.{stepped-done, stepped-refused}
 use Rattle.run_build.specs.Contract.{Beginnable, Builds}
 use Rattle.run_build.specs.Store.{Store}
 use Rattle.run_build.proofs.Rows.{few-terms}
 use Rattle.run_due_pair.proofs.Woken.{all-awake}
-use Rattle.run_close.specs.declared.Closed.{Closed}
+use Rattle.run_close.specs.declared.AfterClosing.{AfterClosing}
 use Rattle.run_close.specs.Contract.{Closable, Closes}
 use Rattle.run_close.specs.Outcome.{Counted}
 use Rattle.run_progress.specs.declared.Ran.{Ran}
@@ -58,7 +58,7 @@ module _ {bytes : List ℕ} {n : ℕ} {old : Store} {nums dens : List ℤ} {sets
   unfolding ran WhileGoing AtMost
   begins-refused is =
       record {
-        answers = λ problem held. begin-refused byNumber (problem .terms) (finished-refused _ (builds .answers problem held) is);
+        answers = λ problem held. begin-refused byNumber (problem .terms) (stepped-refused _ (builds .answers problem held) is);
         kept = builds .kept;
         notes = builds .notes;
         size = builds .size;
@@ -93,7 +93,7 @@ module _ {bytes : List ℕ} {n : ℕ} {old : Store} {nums dens : List ℤ} {sets
         }
 
     -- They are closed.
-    module _ {c : Closed} {nums′ dens′ : List ℤ} {sets′ : List ℕ} (closes : Closes n 0 heads inputs c (record { nums = nums; dens = dens; sets = sets }) (record { nums = nums′; dens = dens′; sets = sets′ })) where
+    module _ {c : AfterClosing} {nums′ dens′ : List ℤ} {sets′ : List ℕ} (closes : Closes n 0 heads inputs c (record { nums = nums; dens = dens; sets = sets }) (record { nums = nums′; dens = dens′; sets = sets′ })) where
       pub begin-counted : Counted (TERMS + 1) c
       begin-counted = counted-more c (omega (arith, few-terms asked)) (closes .counted)
 
@@ -102,7 +102,7 @@ module _ {bytes : List ℕ} {n : ℕ} {old : Store} {nums dens : List ℤ} {sets
           let new : Work = record { nums = nums′; dens = dens′; sets = sets′ } in
           record {
             answers = λ problem held.
-                begin-closed byNumber (problem .terms) (finished-done (builds .answers problem held) done)
+                begin-closed byNumber (problem .terms) (stepped-done (builds .answers problem held) done)
                 ∙ ap (because (ends 0)) (closes .answers (problem .terms) (noted problem held))
                 ∙ places .answers (tableOf n new);
             kept = kept-then (builds .kept) (closes .kept);

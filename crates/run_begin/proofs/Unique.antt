@@ -7,7 +7,7 @@ use lib.ListN.{length}
 use Rattle.unique.specs.Twice.{TwiceAsked}
 use Rattle.record_reader.specs.Held.{Held}
 use Rattle.rules_run.specs.Row.{COLUMNS}
-use Rattle.run_table.specs.Calls.{NotesKept}
+use Rattle.run_table.specs.Notes.{NotesKept}
 use Rattle.run_table.specs.Loop.{Kept}
 use Rattle.run_table.specs.Work.{tableOf}
 use Rattle.run_table.proofs.Determined.{table-determined, lists-determined}

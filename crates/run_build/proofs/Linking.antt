@@ -14,7 +14,7 @@ use lib.ListN.{length, getD, set, length-set}
 use lib.Seq.{getD-set-same, getD-set-other}
 use lib.IntN.{ℤ}
 use Rattle.set_members.specs.Sets.{holds}
-use Rattle.run_table.specs.Sparse.{SETS, USERS, EARLIER, OPEN, columnsOf, usersOf, earlierOf, openOf, Sparse, Linked}
+use Rattle.run_table.specs.Sets.{SETS, USERS, EARLIER, OPEN, columnsOf, usersOf, earlierOf, openOf, Sparse, Linked}
 use Rattle.run_table.proofs.Linked.{linked-kept}
 use Rattle.run_build.specs.Contract.{Usable, UserNoted, AllUsable, UsersNoted, Traceable, EarlierFound, Linkable, LinksNoted}
 use Rattle.run_build.specs.Links.{UsedBelow, Opened, UsersGrown}

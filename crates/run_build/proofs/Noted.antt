@@ -19,8 +19,8 @@ use Rattle.rules_problem.specs.declared.Kind.the-variants.{Variable, Constant, 
 use Rattle.rules_problem.specs.declared.Term.{Term}
 use Rattle.rules_problem.specs.Lookup.{callOf, inputsOf, kindAt}
 use Rattle.rules_problem.proofs.Kind.{the-type}
-use Rattle.run_table.specs.Calls.{headOf, inputOf, Calls, NotesKept}
-use Rattle.run_table.specs.Sparse.{Linked}
+use Rattle.run_table.specs.Notes.{headOf, inputOf, LookupsNoted, NotesKept}
+use Rattle.run_table.specs.Sets.{Linked}
 use Rattle.run_build_row.specs.Buildable.{Below}
 use Rattle.rules_run.specs.Row.{TERMS}
 use Rattle.run_build.specs.declared.call.Numbers.{Numbers}
@@ -176,7 +176,7 @@ module _ {kind : Kind} {t : ℕ} {heads inputs heads′ inputs′ : List ℕ} (a
   inputs-length = ap length (noted .inputs-are) ∙ simp length-set
 
   -- The heads and inputs are those of one term more.
-  pub calls-noted : (terms : List Term) → kindAt terms t ≡ kind → Calls terms t heads inputs → Calls terms (t + 1) heads′ inputs′
+  pub calls-noted : (terms : List Term) → kindAt terms t ≡ kind → LookupsNoted terms t heads inputs → LookupsNoted terms (t + 1) heads′ inputs′
   calls-noted terms is calls =
       record { head = λ s below. head-at s below (ℕ-discrete s t); input = λ s i below place. input-at s i below place (ℕ-discrete s t) }
     where

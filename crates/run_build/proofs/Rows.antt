@@ -23,14 +23,14 @@ use Rattle.rules_run.specs.Row.{COLUMNS, TERMS, Row, Table, row}
 use Rattle.rules_run.specs.Build.{builtColumn, built}
 use Rattle.run_table.specs.declared.Step.{Step}
 use Rattle.run_table.specs.declared.Step.the-variants.{Done, Refused}
-use Rattle.run_table.specs.Calls.{Calls, NotesKept}
-use Rattle.run_table.specs.Held.{listed, rowAt, tableAt, finished}
+use Rattle.run_table.specs.Notes.{LookupsNoted, NotesKept}
+use Rattle.run_table.specs.Held.{listed, rowAt, tableAt, stepped}
 use Rattle.run_table.specs.Loop.{Kept}
-use Rattle.run_table.specs.Sparse.{PENDING, OPEN, Linked, pendingOf}
+use Rattle.run_table.specs.Sets.{PENDING, OPEN, Linked, pendingOf}
 use Rattle.run_table.specs.Work.{tableOf, Rows}
 use Rattle.run_table.proofs.Columns.{table-length, kept-itself, kept-within, kept-then}
 use Rattle.run_table.proofs.Linked.{linked-same}
-use Rattle.run_table.proofs.Turns.{finished-done, finished-refused, refused-not-done}
+use Rattle.run_table.proofs.Turns.{stepped-done, stepped-refused, refused-not-done}
 use Rattle.run_build_row.specs.Buildable.{Written, Buildable}
 use Rattle.run_build_row.specs.Contract.{TermBuildable, TermBuilt}
 use Rattle.run_build_row.proofs.Building.{table-kept}
@@ -66,7 +66,7 @@ pub record Rising (bytes : List ℕ) (n t : ℕ) (old new : Store) : Type 0 wher
   pub remains : (p : Problem) → decoded bytes ≡ made p → built (p .terms) [] ≡ built (drop t (p .terms)) (tableOf t (new .work))
   pub rows : Rows t (new .work)
   pub kept : Kept 0 (COLUMNS * t) (old .work .nums) (old .work .dens) (new .work .nums) (new .work .dens)
-  pub calls : (p : Problem) → decoded bytes ≡ made p → Calls (p .terms) t (new .heads) (new .inputs)
+  pub calls : (p : Problem) → decoded bytes ≡ made p → LookupsNoted (p .terms) t (new .heads) (new .inputs)
   pub notes : NotesKept t (old .heads) (old .inputs) (new .heads) (new .inputs)
   pub small : InputsSmall t (new .inputs)
   pub linked : Linked t (new .heads) (new .inputs) (new .work .sets)
@@ -173,7 +173,7 @@ module _ {bytes : List ℕ} {n : ℕ} {old : Store} (asked : Beginnable bytes n 
                   record {
                     reached = omega arith;
                     remains = λ p held.
-                        remains-next p held (made (rowAt nums′ dens′ (COLUMNS * t))) (finished-done (built-row .ends) done)
+                        remains-next p held (made (rowAt nums′ dens′ (COLUMNS * t))) (stepped-done (built-row .ends) done)
                         ∙ ap (λ table. built (drop (t + 1) (p .terms)) (table ++ (rowAt nums′ dens′ (COLUMNS * t) ∷ []))) (sym (table-kept t (built-row .kept)))
                         ∙ ap (built (drop (t + 1) (p .terms))) (sym (table-more t nums′ dens′));
                     rows = record {
@@ -194,10 +194,10 @@ module _ {bytes : List ℕ} {n : ℕ} {old : Store} (asked : Beginnable bytes n 
 
               -- It is refused: so is the table.
               pub rising-stops : {number : ℕ} → step ≡ Refused number → Builds bytes n (Refused number) old (store nums′ dens′ sets″ heads′ inputs′)
-              unfolding finished _>>=_
+              unfolding stepped _>>=_
               rising-stops {number} stops =
                   record {
-                    answers = λ p held. remains-next p held (stopped number) (finished-refused (rowAt nums′ dens′ (COLUMNS * t)) (row-built .built .ends) stops);
+                    answers = λ p held. remains-next p held (stopped number) (stepped-refused (rowAt nums′ dens′ (COLUMNS * t)) (row-built .built .ends) stops);
                     kept = kept-to n more;
                     notes = notes-more rising-notes noted more (rising .notes);
                     size = row-built .size ∙ links .size ∙ rising .rows .size ∙ sym (asked .sets-size);
@@ -206,7 +206,7 @@ module _ {bytes : List ℕ} {n : ℕ} {old : Store} (asked : Beginnable bytes n 
 
     -- All rows are built, and every lookup is one to look at.
     pub rising-ends : n ≤ t → Builds bytes n Done old (store nums dens (set sets PENDING ALL) heads inputs)
-    unfolding finished built pendingOf
+    unfolding stepped built pendingOf
     rising-ends over =
         let all : t ≡ n = omega (arith, rising .reached) in
         let rows = rising .rows in

@@ -9,7 +9,7 @@ use Rattle.record_reader.specs.Held.{Held}
 use Rattle.rules_run.specs.Row.{COLUMNS}
 use Rattle.run_table.specs.declared.Step.{Step}
 use Rattle.run_table.specs.declared.Step.the-variants.{Done}
-use Rattle.run_table.specs.Calls.{NotesKept}
+use Rattle.run_table.specs.Notes.{NotesKept}
 use Rattle.run_table.specs.Lists.{both}
 use Rattle.run_table.specs.Work.{tableOf}
 use Rattle.run_table.proofs.Determined.{step-determined, done-determined, table-determined, lists-determined}

@@ -16,10 +16,10 @@ use Rattle.rules_run.specs.Row.{TERMS, COLUMNS, PLACES}
 use Rattle.rules_run.specs.Build.{built}
 use Rattle.run_table.specs.declared.Step.{Step}
 use Rattle.run_table.specs.declared.Step.the-variants.{Done}
-use Rattle.run_table.specs.Calls.{headOf, inputOf, Calls, NotesKept}
-use Rattle.run_table.specs.Held.{finished}
+use Rattle.run_table.specs.Notes.{headOf, inputOf, LookupsNoted, NotesKept}
+use Rattle.run_table.specs.Held.{stepped}
 use Rattle.run_table.specs.Loop.{Kept}
-use Rattle.run_table.specs.Sparse.{SETS, usersOf, pendingOf, Linked}
+use Rattle.run_table.specs.Sets.{SETS, usersOf, pendingOf, Linked}
 use Rattle.run_table.specs.Work.{tableOf, Rows}
 use Rattle.run_build_row.specs.Buildable.{Below}
 use Rattle.run_build.specs.declared.call.Numbers.{Numbers}
@@ -109,7 +109,7 @@ pub record Beginnable (bytes : List ℕ) (n : ℕ) (s : Store) : Type 0 where
 -- All rows stand: they can be worked on, the lookups are noted and linked, and each is open and one that closing has to look at.
 pub record Standing (bytes : List ℕ) (n : ℕ) (s : Store) : Type 0 where
   pub rows : Rows n (s .work)
-  pub calls : (problem : Problem) → decoded bytes ≡ made problem → Calls (problem .terms) n (s .heads) (s .inputs)
+  pub calls : (problem : Problem) → decoded bytes ≡ made problem → LookupsNoted (problem .terms) n (s .heads) (s .inputs)
   pub linked : Linked n (s .heads) (s .inputs) (s .work .sets)
   pub pending : (j : ℕ) → j < TERMS → holds (pendingOf (s .work .sets)) j ≡ true
   pub opened : Opened n (s .heads) (s .work .sets)
@@ -117,7 +117,7 @@ pub record Standing (bytes : List ℕ) (n : ℕ) (s : Store) : Type 0 where
 -- The rows of the terms are those that the rule builds, or the rule refuses one of them; no place behind them, or behind what is noted of
 -- the terms, has changed.
 pub record Builds (bytes : List ℕ) (n : ℕ) (step : Step) (old new : Store) : Type 0 where
-  pub answers : (problem : Problem) → decoded bytes ≡ made problem → built (problem .terms) [] ≡ finished step (tableOf n (new .work))
+  pub answers : (problem : Problem) → decoded bytes ≡ made problem → built (problem .terms) [] ≡ stepped step (tableOf n (new .work))
   pub kept : Kept 0 (COLUMNS * n) (old .work .nums) (old .work .dens) (new .work .nums) (new .work .dens)
   pub notes : NotesKept n (old .heads) (old .inputs) (new .heads) (new .inputs)
   pub size : length (new .work .sets) ≡ length (old .work .sets)

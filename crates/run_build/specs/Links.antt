@@ -8,7 +8,7 @@ use Prim.Native.Nat.{ℕ, _+_, _*_, _≤_, _<_}
 use lib.ListN.{length, getD}
 use Rattle.set_members.specs.Sets.{holds}
 use Rattle.rules_run.specs.Row.{TERMS}
-use Rattle.run_table.specs.Sparse.{USERS, EARLIER, usersOf, earlierOf, openOf}
+use Rattle.run_table.specs.Sets.{USERS, EARLIER, usersOf, earlierOf, openOf}
 
 -- each input noted of the terms below n has a set of users: it is the number of a term
 pub record InputsSmall (n : ℕ) (inputs : List ℕ) : Type 0 where

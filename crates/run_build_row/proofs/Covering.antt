@@ -17,7 +17,7 @@ use Rattle.fraction.specs.declared.Fraction.{Fraction}
 use Rattle.rules_problem.specs.declared.Kind.{Kind}
 use Rattle.rules_problem.specs.declared.Kind.the-variants.{Variable, Constant, Gain, Sum, Difference, Lookup1, Lookup2, Lookup3}
 use Rattle.rules_problem.proofs.Kind.{the-type}
-use Rattle.run_table.specs.Sparse.{columnsOf}
+use Rattle.run_table.specs.Sets.{columnsOf}
 use Rattle.run_build_row.specs.Contract.{Coverable}
 use Rattle.run_build_row.specs.Sparse.{mayHold}
 

@@ -26,7 +26,7 @@ use Rattle.rules_run.specs.Build.{alone, builtColumn}
 use Rattle.run_table.specs.Held.{heldAt, tableAt, SoundTo}
 use Rattle.run_table.specs.Lists.{Lists, both}
 use Rattle.run_table.specs.Loop.{Kept}
-use Rattle.run_table.specs.Sparse.{Within, Sparse, columnsOf}
+use Rattle.run_table.specs.Sets.{Within, Sparse, columnsOf}
 use Rattle.run_table.proofs.OverSet.{Leaves}
 use Rattle.run_table.proofs.Sparse.{zero-numerator}
 use Rattle.run_fill.specs.Contract.{Filled}

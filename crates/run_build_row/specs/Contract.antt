@@ -18,10 +18,10 @@ use Rattle.rules_run.specs.Row.{TERMS, COLUMNS, PLACES, Table, row}
 use Rattle.rules_run.specs.Build.{alone, builtColumn}
 use Rattle.run_table.specs.declared.Step.{Step}
 use Rattle.run_table.specs.declared.Step.the-variants.{Done}
-use Rattle.run_table.specs.Held.{heldAt, rowAt, tableAt, SoundTo, finished}
+use Rattle.run_table.specs.Held.{heldAt, rowAt, tableAt, SoundTo, stepped}
 use Rattle.run_table.specs.Lists.{Lists}
 use Rattle.run_table.specs.Loop.{Kept, RowMade}
-use Rattle.run_table.specs.Sparse.{SETS, Within, Sparse}
+use Rattle.run_table.specs.Sets.{SETS, Within, Sparse}
 use Rattle.run_table.specs.Work.{Work, Rows}
 use Rattle.run_build_row.specs.Buildable.{Written, Holding, Below, Buildable, Combined}
 use Rattle.run_build_row.specs.Sparse.{Covered, Blank}
@@ -104,7 +104,7 @@ pub record Joinable (kind : Kind) (t columns : ℕ) (l : Lists) : Type 0 where
 -- Row t is the one that the rule makes of the rows before it, or the rule refuses it; no other place has changed; where it is made, the
 -- rows up to it are sound.
 pub record RowBuilt (kind : Kind) (t : ℕ) (step : Step) (nums₀ dens₀ nums dens : List ℤ) : Type 0 where
-  pub ends : row (builtColumn (tableAt t nums₀ dens₀) t kind) ≡ finished step (rowAt nums dens (COLUMNS * t))
+  pub ends : row (builtColumn (tableAt t nums₀ dens₀) t kind) ≡ stepped step (rowAt nums dens (COLUMNS * t))
   pub kept : Kept (COLUMNS * t) (COLUMNS * t + COLUMNS) nums₀ dens₀ nums dens
   pub sound : step ≡ Done → SoundTo (COLUMNS * (t + 1)) nums dens
 

@@ -8,7 +8,7 @@ use Rattle.rules_run.specs.Row.{COLUMNS, column}
 use Rattle.run_table.specs.declared.Step.{Step}
 use Rattle.run_table.specs.Lists.{Lists, rowIn, RowWithin}
 use Rattle.run_table.specs.Loop.{RowMade}
-use Rattle.run_table.specs.Sparse.{Within}
+use Rattle.run_table.specs.Sets.{Within}
 
 -- Two rows that stand in the lists, neither with a column outside the set, and a row of zeros in two lists of its own.
 pub record Subtractable (left right set : ℕ) (rows d : Lists) : Type 0 where

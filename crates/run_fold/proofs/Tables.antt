@@ -21,17 +21,17 @@ use Rattle.rules_run.specs.Row.{COLUMNS, row, rowOf}
 use Rattle.rules_run.specs.Merge.{foldedColumn, folded}
 use Rattle.run_table.specs.declared.Step.{Step}
 use Rattle.run_table.specs.declared.Step.the-variants.{Done, Refused}
-use Rattle.run_table.specs.Held.{heldAt, rowAt, tableAt, SoundTo, finished}
+use Rattle.run_table.specs.Held.{heldAt, rowAt, tableAt, SoundTo, stepped}
 use Rattle.run_table.specs.Lists.{Lists, both, rowIn}
 use Rattle.run_table.specs.Loop.{Kept}
-use Rattle.run_table.specs.Sparse.{Sparse, Stirred}
+use Rattle.run_table.specs.Sets.{Sparse, Stirred}
 use Rattle.run_table.specs.Work.{Work, tableOf, Rows}
 use Rattle.run_table.proofs.Columns.{row-held, table-length, kept-itself, kept-row, kept-within, kept-then, sound-beyond}
 use Rattle.run_table.proofs.Lists.{rows-held, read-good}
 use Rattle.run_table.proofs.Rows.{tab-listed}
 use Rattle.run_table.proofs.Sparse.{zero-numerator, stirred-itself}
 use Rattle.run_table.proofs.Stirred.{stirred-then}
-use Rattle.run_table.proofs.Turns.{finished-done, finished-refused, refused-not-done}
+use Rattle.run_table.proofs.Turns.{stepped-done, stepped-refused, refused-not-done}
 use Rattle.run_fold.specs.Contract.{Noted, FoldableAt, FoldsAt, FoldableRow, FoldsRow, Passable, Passed, Foldable, Folds}
 use Rattle.run_fold.proofs.Columns.{row-passed}
 use Rattle.run_fold.proofs.Sets.{row-stirred, row-sparse}
@@ -110,7 +110,7 @@ module _ {n p set : ℕ} {form : Lists} {old : Work} (asked : Foldable n p set f
 
     module _ {w′ : Work} {step : Step} (below : t < n) (folds : FoldsRow t p set form step w w′) where
       -- The rule's row t is the one that the turn reads.
-      row-read : row (foldedColumn p (rowIn form 0) (rowOf (tableOf n old) t)) ≡ finished step (rowAt (w′ .nums) (w′ .dens) (COLUMNS * t))
+      row-read : row (foldedColumn p (rowIn form 0) (rowOf (tableOf n old) t)) ≡ stepped step (rowAt (w′ .nums) (w′ .dens) (COLUMNS * t))
       row-read =
           ap (λ r. row (foldedColumn p (rowIn form 0) r)) (row-held n (old .nums) (old .dens) t below ∙ sym (kept-row (folding .kept) (COLUMNS * t) (inr (omega arith))))
           ∙ folds .columns .row-made .ends
@@ -126,7 +126,7 @@ module _ {n p set : ℕ} {form : Lists} {old : Work} (asked : Foldable n p set f
 
       -- One row more is folded.
       one-more : step ≡ Done → Folding n p form (t + 1) old w′
-      unfolding finished
+      unfolding stepped
       one-more done =
           record {
             most = omega arith;
@@ -139,18 +139,18 @@ module _ {n p set : ℕ} {form : Lists} {old : Work} (asked : Foldable n p set f
         where
           by : (s : ℕ) → s < t + 1 → Dec (s ≡ t)
               → row (foldedColumn p (rowIn form 0) (rowOf (tableOf n old) s)) ≡ made (rowAt (w′ .nums) (w′ .dens) (COLUMNS * s))
-          by s less (yes same) = rw same (finished-done row-read done)
+          by s less (yes same) = rw same (stepped-done row-read done)
           by s less (no other) = folding .folded-below s (omega arith) ∙ ap made (sym (kept-row (folds .columns .row-made .kept) (COLUMNS * s) (inl (omega arith))))
 
       -- A row is refused: the fold is.
       pub folding-stops : {number : ℕ} → step ≡ Refused number → Folds n p form (Refused number) old w′
-      unfolding folded finished
+      unfolding folded stepped
       folding-stops {number} refused =
           record {
             ends =
                 ap (λ count. tab count 0 (λ s. row (foldedColumn p (rowIn form 0) (rowOf (tableOf n old) s)))) (table-length n (old .nums) (old .dens))
                 ∙ tab-stopped (λ s. row (foldedColumn p (rowIn form 0) (rowOf (tableOf n old) s))) n 0 t number below (λ s h. (rowAt (w .nums) (w .dens) (COLUMNS * s), rw zero-add (folding .folded-below s h)))
-                (rw zero-add (finished-refused _ row-read refused));
+                (rw zero-add (stepped-refused _ row-read refused));
             kept = all-kept (COLUMNS * n) (omega arith);
             sound = all-sound;
             sparse = λ done. absurd (refused-not-done done);
@@ -159,7 +159,7 @@ module _ {n p set : ℕ} {form : Lists} {old : Work} (asked : Foldable n p set f
 
     -- Rows that hold 0 at p are their own folds: nothing is done, and they are folded.
     passes : {r : ℕ} → Passed n p t r (w .nums) → Folding n p form r old w
-    unfolding finished
+    unfolding stepped
     passes {r} passed =
         record {
           most = passed .most;
@@ -199,7 +199,7 @@ module _ {n p set : ℕ} {form : Lists} {old : Work} (asked : Foldable n p set f
 
   -- All rows are folded: the table is.
   pub folding-ends : {t : ℕ} {w : Work} → Folding n p form t old w → n ≤ t → Folds n p form Done old w
-  unfolding folded finished tableAt
+  unfolding folded stepped tableAt
   folding-ends {t} {w} folding over =
       let most = folding .most in
       record {

@@ -18,11 +18,11 @@ use Rattle.rules_run.specs.Row.{TERMS, COLUMNS, PLACES}
 use Rattle.rules_run.specs.Merge.{foldedColumn, folded}
 use Rattle.run_table.specs.declared.Step.{Step}
 use Rattle.run_table.specs.declared.Step.the-variants.{Done}
-use Rattle.run_table.specs.Held.{SoundTo, finished}
+use Rattle.run_table.specs.Held.{SoundTo, stepped}
 use Rattle.run_table.specs.Lists.{Lists, both, rowIn, RowHeld, RowWithin, Unknown}
 use Rattle.run_table.specs.Loop.{Kept, RowMade}
 use Rattle.run_table.specs.Reached.{reached}
-use Rattle.run_table.specs.Sparse.{columnsOf, usersOf, pendingOf, Sparse, Stirred}
+use Rattle.run_table.specs.Sets.{columnsOf, usersOf, pendingOf, Sparse, Stirred}
 use Rattle.run_table.specs.Work.{Work, tableOf, Rows}
 use Rattle.run_fold.specs.Cell.{gainedColumn}
 
@@ -115,7 +115,7 @@ pub record Foldable (n p set : ℕ) (form : Lists) (w : Work) : Type 0 where
 -- The table becomes the one that the rule folds, or the rule refuses a column. Nothing behind the n rows changes, and the rows are sound;
 -- the sets say which columns they have, where the fold is done, and which lookups have to be looked at again, however it ends.
 pub record Folds (n p : ℕ) (form : Lists) (step : Step) (old new : Work) : Type 0 where
-  pub ends : folded p (rowIn form 0) (tableOf n old) ≡ finished step (tableOf n new)
+  pub ends : folded p (rowIn form 0) (tableOf n old) ≡ stepped step (tableOf n new)
   pub kept : Kept 0 (COLUMNS * n) (old .nums) (old .dens) (new .nums) (new .dens)
   pub sound : SoundTo (COLUMNS * n) (new .nums) (new .dens)
   pub sparse : step ≡ Done → Sparse n (new .nums) (new .sets)

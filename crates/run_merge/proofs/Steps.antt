@@ -26,12 +26,12 @@ use Rattle.run_table.specs.declared.Step.{Step}
 use Rattle.run_table.specs.declared.Step.the-variants.{Done, Refused as Stopped}
 use Rattle.run_table.specs.Held.{heldAt, rowAt}
 use Rattle.run_table.specs.Lists.{Lists, both, RowWithin}
-use Rattle.run_table.specs.Sparse.{columnsOf}
+use Rattle.run_table.specs.Sets.{columnsOf}
 use Rattle.run_table.specs.Work.{Work, tableOf, Rows}
 use Rattle.run_table.proofs.Columns.{column-first, row-held, kept-itself, sound-zeros}
 use Rattle.run_table.proofs.Lists.{rows-held, first-good}
 use Rattle.run_table.proofs.Sparse.{within-left, within-right, stirred-itself}
-use Rattle.run_table.proofs.Turns.{finished-done, finished-refused}
+use Rattle.run_table.proofs.Turns.{stepped-done, stepped-refused}
 use Rattle.run_difference.specs.Contract.{Subtractable, apart, Subtracts}
 use Rattle.run_pivot.specs.declared.Found.{Found}
 use Rattle.run_pivot.specs.declared.Found.the-variants.{At, Nothing as Nowhere}
@@ -87,22 +87,22 @@ module _ {n p set : ℕ} {nums dens : List ℤ} {w : Work} (asked : Solvable n p
     pub form-refused : {number : ℕ} → step ≡ Stopped number → Solves n p (rowAt nums dens 0) (Refused number) w w
     unfolding solve because merged _>>=_
     form-refused refused =
-        let form = finished-refused (rowAt nums′ dens′ 0) (forms .row-made .ends) refused in
+        let form = stepped-refused (rowAt nums′ dens′ 0) (forms .row-made .ends) refused in
         record { answers = λ solved. rw form; left = left-itself (asked .settleable .rows) (Refused _) }
 
     module _ {step′ : Step} {new : Work} (done : step ≡ Done) (folds : Folds n p (both nums′ dens′) step′ w new) where
       pub fold-refused : {number : ℕ} → step′ ≡ Stopped number → Solves n p (rowAt nums dens 0) (Refused number) w new
       unfolding solve because merged _>>=_ Unstopped
       fold-refused refused =
-          let form = finished-done (forms .row-made .ends) done in
-          let table = finished-refused (tableOf n new) (folds .ends) refused in
+          let form = stepped-done (forms .row-made .ends) done in
+          let table = stepped-refused (tableOf n new) (folds .ends) refused in
           record { answers = λ solved. rw (form, table); left = record { kept = folds .kept; sound = folds .sound; size = folds .stirred .same-length; hints = tt } }
 
       pub fold-made : step′ ≡ Done → Solves n p (rowAt nums dens 0) Solved w new
       unfolding solve because merged _>>=_ Unstopped
       fold-made over =
-          let form = finished-done (forms .row-made .ends) done in
-          let table = finished-done (folds .ends) over in
+          let form = stepped-done (forms .row-made .ends) done in
+          let table = stepped-done (folds .ends) over in
           record {
             answers = λ solved. rw (form, table);
             left =
@@ -202,11 +202,11 @@ module _ {n t u : ℕ} {w : Work} (asked : Mergeable n t u w) where
     pub difference-refused : {number : ℕ} → step ≡ Stopped number → Merges n t u (Refused number) w w
     unfolding merge merged because _>>=_
     difference-refused refused =
-        let stops = difference-read ∙ finished-refused (rowAt nums dens 0) (subtracts .row-made .ends) refused in
+        let stops = difference-read ∙ stepped-refused (rowAt nums dens 0) (subtracts .row-made .ends) refused in
         record { answers = λ solved. rw stops; left = left-itself (asked .rows) (Refused _) }
 
     pub difference-made : {r : Merged} {new : Work} → step ≡ Done → Settles n (rowAt nums dens 0) r w new → Merges n t u r w new
     unfolding merge because _>>=_
     difference-made done settles =
-        let makes = difference-read ∙ finished-done (subtracts .row-made .ends) done in
+        let makes = difference-read ∙ stepped-done (subtracts .row-made .ends) done in
         record { answers = λ solved. rw makes (settles .answers solved); left = settles .left }

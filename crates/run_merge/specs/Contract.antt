@@ -10,7 +10,7 @@ use Rattle.rules_run.specs.Run.{byNumber}
 use Rattle.run_table.specs.Held.{SoundTo}
 use Rattle.run_table.specs.Lists.{Lists, RowWithin, Unknown}
 use Rattle.run_table.specs.Loop.{Kept}
-use Rattle.run_table.specs.Sparse.{Sparse, Stirred}
+use Rattle.run_table.specs.Sets.{Sparse, Stirred}
 use Rattle.run_table.specs.Work.{Work, tableOf, Rows}
 use Rattle.run_merge.specs.declared.Merged.{Merged}
 use Rattle.run_merge.specs.Outcome.{merged, Unstopped}

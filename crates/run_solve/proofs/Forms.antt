@@ -22,7 +22,7 @@ use Rattle.rules_run.specs.Row.{TERMS, column}
 use Rattle.run_table.specs.declared.Step.{Step}
 use Rattle.run_table.specs.Held.{heldAt, rowAt}
 use Rattle.run_table.specs.Lists.{both}
-use Rattle.run_table.specs.Sparse.{Within}
+use Rattle.run_table.specs.Sets.{Within}
 use Rattle.run_table.proofs.Columns.{column-first}
 use Rattle.run_table.proofs.Lists.{first-good, column-nothing}
 use Rattle.run_table.proofs.Reached.{Stored, stores, stored-sound, stored-other, row-apart}

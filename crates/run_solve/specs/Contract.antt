@@ -11,7 +11,7 @@ use Rattle.run_table.specs.declared.Step.{Step}
 use Rattle.run_table.specs.Lists.{Lists, rowIn, RowWithin, Unknown}
 use Rattle.run_table.specs.Loop.{RowMade}
 use Rattle.run_table.specs.Reached.{reached}
-use Rattle.run_table.specs.Sparse.{Within}
+use Rattle.run_table.specs.Sets.{Within}
 use Rattle.run_solve.specs.Cell.{scaledColumn}
 
 -- a factor and a number to be multiplied by it

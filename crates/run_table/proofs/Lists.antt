@@ -14,7 +14,7 @@ use Rattle.fraction_reduce.specs.Values.{Good}
 use Rattle.rules_run.specs.Row.{TERMS, COLUMNS, column}
 use Rattle.run_table.specs.Held.{heldAt}
 use Rattle.run_table.specs.Lists.{Lists, both, rowIn, RowHeld, RowWithin}
-use Rattle.run_table.specs.Sparse.{Within}
+use Rattle.run_table.specs.Sets.{Within}
 use Rattle.run_table.specs.Work.{Work, Rows}
 use Rattle.run_table.proofs.Columns.{column-held, sound-fewer}
 use Rattle.run_table.proofs.Sparse.{within-value, within-more}

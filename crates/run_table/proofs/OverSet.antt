@@ -24,7 +24,7 @@ use Rattle.run_table.specs.declared.Step.{Step}
 use Rattle.run_table.specs.declared.Step.the-variants.{Done, Refused as Stopped}
 use Rattle.run_table.specs.Held.{heldAt, SoundTo}
 use Rattle.run_table.specs.Loop.{Making, RowMade}
-use Rattle.run_table.specs.Sparse.{Within}
+use Rattle.run_table.specs.Sets.{Within}
 use Rattle.run_table.proofs.Rows.{held-other, making-starts}
 use Rattle.run_table.proofs.Sparse.{making-skips}
 use Rattle.run_table.proofs.Turns.{turn-stores, turn-stops, turns-end}

@@ -14,10 +14,10 @@ use Rattle.fraction_reduce.proofs.Lowest.{value-one-to-one}
 use Rattle.rules_run.specs.Row.{Table, TERMS, COLUMNS}
 use Rattle.run_table.specs.declared.Step.{Step}
 use Rattle.run_table.specs.declared.Step.the-variants.{Done}
-use Rattle.run_table.specs.Held.{tableAt, SoundTo, finished}
+use Rattle.run_table.specs.Held.{tableAt, SoundTo, stepped}
 use Rattle.run_table.specs.Lists.{Lists}
 use Rattle.run_table.specs.Loop.{Kept, RowMade}
-use Rattle.run_table.specs.Sparse.{Within, Stirred}
+use Rattle.run_table.specs.Sets.{Within, Stirred}
 use Rattle.run_table.proofs.Determined.{step-determined, done-determined, table-determined, lists-determined, row-made-unique}
 use Rattle.run_table.proofs.OverSet.{Spared}
 use Rattle.run_table.proofs.Sparse.{within-value}
@@ -49,7 +49,7 @@ row-same-end room first second =
 
 -- So does a table of n rows.
 pub table-same-end : {rule : Made ℕ Table} (n : ℕ) {r s : Step} {nums₀ dens₀ : List ℤ} {new new′ : Lists}
-    → rule ≡ finished r (tableAt n (new .nums) (new .dens)) → rule ≡ finished s (tableAt n (new′ .nums) (new′ .dens))
+    → rule ≡ stepped r (tableAt n (new .nums) (new .dens)) → rule ≡ stepped s (tableAt n (new′ .nums) (new′ .dens))
     → Kept 0 (COLUMNS * n) nums₀ dens₀ (new .nums) (new .dens) → Kept 0 (COLUMNS * n) nums₀ dens₀ (new′ .nums) (new′ .dens)
     → SoundTo (COLUMNS * n) (new .nums) (new .dens) → SoundTo (COLUMNS * n) (new′ .nums) (new′ .dens) → SameEnd 0 (COLUMNS * n) r s new new′
 table-same-end n {r} {s} {new = new} {new′} ends ends′ kept kept′ sound sound′ =

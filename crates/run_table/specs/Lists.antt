@@ -11,7 +11,7 @@ use denote.Triple.Both.{Both}
 use Rattle.set_members.specs.Sets.{holds}
 use Rattle.rules_run.specs.Row.{Row, TERMS, COLUMNS}
 use Rattle.run_table.specs.Held.{rowAt, SoundTo}
-use Rattle.run_table.specs.Sparse.{Within}
+use Rattle.run_table.specs.Sets.{Within}
 
 pub record Lists : Type 0 where
   pub nums : List ℤ

@@ -1,5 +1,5 @@
 -- `run_merge::merge` meets its contract: the difference, then what it settles. Assumes nothing.
-use Rattle.run_table.specs.Sparse.{columnsOf}
+use Rattle.run_table.specs.Sets.{columnsOf}
 use Rattle.run_merge.proofs.Steps.{zeros-within, merge-subtracts, merge-settles, difference-made, difference-refused}
 use borrow.Author.Needs.{needs}
 use Rattle.run_merge.proofs.merge.Statement.{statement}

@@ -1,5 +1,5 @@
+mod Enough
 mod Limits
-mod Rows
 mod Pages
 mod Printed
-mod Enough
+mod Rows

@@ -1,3 +1,4 @@
+mod Shown
 pub mod Answers
 pub mod Bounded
 pub mod Common
@@ -5,4 +6,3 @@ pub mod Cross
 pub mod Equality
 pub mod Field
 pub mod Making
-mod Shown

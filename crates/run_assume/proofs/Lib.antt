@@ -1,3 +1,3 @@
-pub mod One
 pub mod All
+pub mod One
 pub mod Unique

@@ -1,4 +1,4 @@
+pub mod Sets
 pub mod Turns
 pub mod Unique
-pub mod Sets
 pub mod Waking

@@ -1,2 +1,2 @@
-pub mod Found
 pub mod Contract
+pub mod Found

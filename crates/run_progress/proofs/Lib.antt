@@ -1,2 +1,2 @@
-pub mod Unique
 pub mod Going
+pub mod Unique

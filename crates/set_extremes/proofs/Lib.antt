@@ -1,5 +1,5 @@
+pub mod Downward
 pub mod Lowest
-pub mod Unique
 pub mod Onward
 pub mod Taken
-pub mod Downward
+pub mod Unique

@@ -20,7 +20,7 @@ pub record Subtractable (left right set : ℕ) (rows d : Lists) : Type 0 where
 abbrev pub apart : (left right : ℕ) (rows : Lists) → (c : ℕ) → Made ℕ ℚ
 apart left right rows c = minus (column (rowIn rows left) c) (column (rowIn rows right) c)
 
--- The row of zeros becomes the difference, or a column is refused; no column outside the set is written.
+-- The row of zeros becomes the difference, or a column is refused; however it ends, a term's column outside the set holds 0.
 pub record Subtracts (left right set : ℕ) (step : Step) (rows old new : Lists) : Type 0 where
   pub row-made : RowMade (apart left right rows) 0 COLUMNS step (old .nums) (old .dens) (new .nums) (new .dens)
   pub within : Within set 0 (new .nums)

@@ -30,7 +30,7 @@ use Rattle.run_fold.specs.Cell.{gainedColumn}
 abbrev pub SETS : ℕ
 SETS = 194
 
--- the place of the lookups that closing has to look at again
+-- the place in it of the lookups that closing has to look at again
 abbrev pub PENDING : ℕ
 PENDING = 192
 

@@ -28,7 +28,7 @@ pub record ScalableRow (factor : Fraction) (set : ℕ) (d : Lists) : Type 0 wher
 abbrev pub scaledIn : (factor : Fraction) (set : ℕ) (d : Lists) → (c : ℕ) → Made ℕ ℚ
 scaledIn factor set d c = reached set (scaledColumn (value factor) (rowIn d 0)) (rowIn d 0) c
 
--- The columns are multiplied, or one is refused; no column outside the set is written.
+-- The columns are multiplied, or one is refused; however it ends, a term's column outside the set holds 0.
 pub record ScalesRow (factor : Fraction) (set : ℕ) (step : Step) (old new : Lists) : Type 0 where
   pub row-made : RowMade (scaledIn factor set old) 0 COLUMNS step (old .nums) (old .dens) (new .nums) (new .dens)
   pub within : Within set 0 (new .nums)
@@ -38,7 +38,8 @@ pub record Formable (p set : ℕ) (d : Lists) : Type 0 where
   pub unknown : Unknown p set
   pub row : RowWithin set 0 d
 
--- The difference becomes the form of p that the rule makes, or the rule refuses a column; no column outside the set is written.
+-- The difference becomes the form of p that the rule makes, or the rule refuses a column; however it ends, a term's column outside the set
+-- holds 0.
 pub record Forms (p set : ℕ) (step : Step) (old new : Lists) : Type 0 where
   pub row-made : RowMade (solvedColumn p (rowIn old 0)) 0 COLUMNS step (old .nums) (old .dens) (new .nums) (new .dens)
   pub within : Within set 0 (new .nums)

@@ -21,7 +21,6 @@ use Rattle.fraction_reduce.specs.Values.{Good}
 use Rattle.fraction_reduce.proofs.Tests.{zero-tested, other-tested}
 use Rattle.rules_run.specs.Row.{TERMS, COLUMNS, constant, column, row, rowOf}
 use Rattle.rules_run.specs.Merge.{difference, pivot, solve, settle, merge}
-use Rattle.rules_run.specs.Run.{byNumber}
 use Rattle.run_table.specs.declared.Step.{Step}
 use Rattle.run_table.specs.declared.Step.the-variants.{Done, Refused as Stopped}
 use Rattle.run_table.specs.Held.{heldAt, rowAt}
@@ -35,7 +34,7 @@ use Rattle.run_table.proofs.Turns.{stepped-done, stepped-refused}
 use Rattle.run_difference.specs.Contract.{Subtractable, apart, Subtracts}
 use Rattle.run_pivot.specs.declared.Found.{Found}
 use Rattle.run_pivot.specs.declared.Found.the-variants.{At, Nothing as Nowhere}
-use Rattle.run_pivot.specs.Contract.{pivoted, Pivots}
+use Rattle.run_pivot.specs.Contract.{preferring, pivoted, Pivots}
 use Rattle.run_solve.specs.Contract.{Formable, Forms}
 use Rattle.run_fold.specs.Contract.{Foldable, Folds}
 use Rattle.run_merge.specs.declared.Merged.{Merged}
@@ -115,20 +114,20 @@ module _ {n p set : ℕ} {nums dens : List ℤ} {w : Work} (asked : Solvable n p
           }
 
 -- The difference is settled by the unknown found, and where there is none by the constant.
-module _ {n set : ℕ} {nums dens : List ℤ} {w : Work} {found : Found} (asked : Settleable n set (both nums dens) w)
-    (pivots : Pivots set (both nums dens) found) where
+module _ {n set preferred : ℕ} {nums dens : List ℤ} {w : Work} {found : Found} (asked : Settleable n set (both nums dens) w)
+    (pivots : Pivots set preferred (both nums dens) found) where
   pub settle-solves : {p : ℕ} → found ≡ At p → Solvable n p set (both nums dens) w
   settle-solves at = record { unknown = pivots .unknown _ at; settleable = asked }
 
   pub settles-solved : {p : ℕ} {r : Merged} {new : Work} → found ≡ At p → Solves n p (rowAt nums dens 0) r w new
-      → Settles n (rowAt nums dens 0) r w new
+      → Settles n preferred (rowAt nums dens 0) r w new
   unfolding settle pivoted
   settles-solved at solves =
       let chosen = pivots .chosen ∙ ap pivoted at in
       record { answers = λ solved. rw chosen (solves .answers solved); left = solves .left }
 
   module _ {k : Fraction} (nowhere : found ≡ Nowhere) (read : k ≡ heldAt nums dens TERMS) where
-    none-chosen : pivot byNumber TERMS (rowAt nums dens 0) ≡ none
+    none-chosen : pivot (preferring preferred) TERMS (rowAt nums dens 0) ≡ none
     unfolding pivoted
     none-chosen = pivots .chosen ∙ ap pivoted nowhere
 
@@ -139,13 +138,13 @@ module _ {n set : ℕ} {nums dens : List ℤ} {w : Work} {found : Found} (asked 
     good : Good k
     good = first-good (asked .difference .held) read (omega arith)
 
-    pub settles-nothing : ofZ w32 (k .num) ≡ ofZ w32 (pos 0) → Settles n (rowAt nums dens 0) Nothing w w
+    pub settles-nothing : ofZ w32 (k .num) ≡ ofZ w32 (pos 0) → Settles n preferred (rowAt nums dens 0) Nothing w w
     unfolding settle merged
     settles-nothing zero =
         let is-zero = tested ∙ zero-tested good zero in
         record { answers = λ solved. rw (none-chosen, is-zero); left = left-itself (asked .rows) Nothing }
 
-    pub settles-contradiction : (ofZ w32 (k .num) ≡ ofZ w32 (pos 0) → ⊥) → Settles n (rowAt nums dens 0) Contradiction w w
+    pub settles-contradiction : (ofZ w32 (k .num) ≡ ofZ w32 (pos 0) → ⊥) → Settles n preferred (rowAt nums dens 0) Contradiction w w
     unfolding settle merged
     settles-contradiction other =
         let is-not = tested ∙ other-tested good other in
@@ -199,13 +198,13 @@ module _ {n t u : ℕ} {w : Work} (asked : Mergeable n t u w) where
         ap₂ (λ r s. row (λ c. minus (column r c) (column s c))) (row-held n (w .nums) (w .dens) t (asked .left)) (row-held n (w .nums) (w .dens) u (asked .right))
 
     -- The difference is refused; or it is made, and settled.
-    pub difference-refused : {number : ℕ} → step ≡ Stopped number → Merges n t u (Refused number) w w
+    pub difference-refused : {preferred number : ℕ} → step ≡ Stopped number → Merges n t u preferred (Refused number) w w
     unfolding merge merged because _>>=_
     difference-refused refused =
         let stops = difference-read ∙ stepped-refused (rowAt nums dens 0) (subtracts .row-made .ends) refused in
         record { answers = λ solved. rw stops; left = left-itself (asked .rows) (Refused _) }
 
-    pub difference-made : {r : Merged} {new : Work} → step ≡ Done → Settles n (rowAt nums dens 0) r w new → Merges n t u r w new
+    pub difference-made : {preferred : ℕ} {r : Merged} {new : Work} → step ≡ Done → Settles n preferred (rowAt nums dens 0) r w new → Merges n t u preferred r w new
     unfolding merge because _>>=_
     difference-made done settles =
         let makes = difference-read ∙ stepped-done (subtracts .row-made .ends) done in

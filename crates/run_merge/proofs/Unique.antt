@@ -45,7 +45,7 @@ table-back Solved table table′ h p q k = let same : _≡_ {A = State} (record 
 table-back Contradiction table table′ h p q k = tt
 table-back (Refused number) table table′ h p q k = tt
 
-module _ {n t u : ℕ} {r s : Merged} {old new new′ : Work} (first : Merges n t u r old new) (second : Merges n t u s old new′) where
+module _ {n t u preferred : ℕ} {r s : Merged} {old new new′ : Work} (first : Merges n t u preferred r old new) (second : Merges n t u preferred s old new′) where
   answers-same : r ≡ s
   answers-same = sym (merged-back r 0 (tableOf n new)) ∙ ap (mergedOf 0) (sym (first .answers 0) ∙ second .answers 0) ∙ merged-back s 0 (tableOf n new′)
 

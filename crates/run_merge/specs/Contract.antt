@@ -6,7 +6,7 @@ use lib.ListN.{length}
 use Rattle.fraction.specs.Made.{because}
 use Rattle.rules_run.specs.Row.{Row, TERMS, COLUMNS}
 use Rattle.rules_run.specs.Merge.{State, outside, pivot, solve, settle, merge}
-use Rattle.rules_run.specs.Run.{byNumber}
+use Rattle.run_pivot.specs.Contract.{preferring}
 use Rattle.run_table.specs.Held.{SoundTo}
 use Rattle.run_table.specs.Lists.{Lists, RowWithin, Unknown}
 use Rattle.run_table.specs.Loop.{Kept}
@@ -53,15 +53,15 @@ pub record Solves (n p : ℕ) (d : Row) (r : Merged) (old new : Work) : Type 0 w
   pub left : Left n r old new
 
 -- the difference settled,
-pub record Settles (n : ℕ) (d : Row) (r : Merged) (old new : Work) : Type 0 where
-  pub answers : (solved : ℕ) → settle d (stateOf n old solved) (pivot byNumber TERMS d) ≡ merged r solved (tableOf n new)
+pub record Settles (n preferred : ℕ) (d : Row) (r : Merged) (old new : Work) : Type 0 where
+  pub answers : (solved : ℕ) → settle d (stateOf n old solved) (pivot (preferring preferred) TERMS d) ≡ merged r solved (tableOf n new)
   pub left : Left n r old new
 
 -- the terms t and u merged.
-pub record Merges (n t u : ℕ) (r : Merged) (old new : Work) : Type 0 where
-  pub answers : (solved : ℕ) → merge byNumber t u (stateOf n old solved) ≡ merged r solved (tableOf n new)
+pub record Merges (n t u preferred : ℕ) (r : Merged) (old new : Work) : Type 0 where
+  pub answers : (solved : ℕ) → merge (preferring preferred) t u (stateOf n old solved) ≡ merged r solved (tableOf n new)
   pub left : Left n r old new
 
 -- what a merge left
-abbrev pub leftBy : {n t u : ℕ} {r : Merged} {old new : Work} → Merges n t u r old new → Work
+abbrev pub leftBy : {n t u preferred : ℕ} {r : Merged} {old new : Work} → Merges n t u preferred r old new → Work
 leftBy {new = new} merges = new

@@ -48,11 +48,12 @@ fn settle(
     d_nums: &mut [i32],
     d_dens: &mut [i32],
     sets: &mut [u64],
+    preferred: u64,
 ) -> Merged
     requires { ⌜ Settleable n set (lists «d_nums» «d_dens») (lent nums dens sets) ⌝ }
-    ensures { λ r. ⌜ Settles n (rowIn (atEntry «d_nums» «d_dens») 0) r (entered nums dens sets) (leaving nums dens sets) ⌝ }
+    ensures { λ r. ⌜ Settles n preferred (rowIn (atEntry «d_nums» «d_dens») 0) r (entered nums dens sets) (leaving nums dens sets) ⌝ }
 {
-    match run_pivot::pivot(d_nums, d_dens, set) {
+    match run_pivot::pivot(d_nums, d_dens, set, preferred) {
         Found::At(p) => solve(nums, dens, n, p, set, d_nums, d_dens, sets),
         Found::Nothing => {
             let constant = run_table::get(d_nums, d_dens, TERMS);
@@ -64,7 +65,8 @@ fn settle(
     }
 }
 
-// 01, Merge: the rows of the terms t and u are merged in the table of n rows. Only the columns of the two rows matter.
+// 01, Merge: the rows of the terms t and u are merged in the table of n rows. Only the columns of the two rows matter. Of the unknowns that
+// could be solved, those in the set `preferred` come first.
 pub fn merge(
     nums: &mut [i32],
     dens: &mut [i32],
@@ -72,9 +74,10 @@ pub fn merge(
     t: usize,
     u: usize,
     sets: &mut [u64],
+    preferred: u64,
 ) -> Merged
     requires { ⌜ Mergeable n t u (lent nums dens sets) ⌝ }
-    ensures { λ r. ⌜ Merges n t u r (entered nums dens sets) (leaving nums dens sets) ⌝ }
+    ensures { λ r. ⌜ Merges n t u preferred r (entered nums dens sets) (leaving nums dens sets) ⌝ }
 {
     let set = set_members::union(sets[t], sets[u]);
     let mut d_nums = [0i32; COLUMNS];
@@ -88,7 +91,16 @@ pub fn merge(
         &mut d_nums,
         &mut d_dens,
     ) {
-        Step::Done => settle(nums, dens, n, set, &mut d_nums, &mut d_dens, sets),
+        Step::Done => settle(
+            nums,
+            dens,
+            n,
+            set,
+            &mut d_nums,
+            &mut d_dens,
+            sets,
+            preferred,
+        ),
         Step::Refused(number) => Merged::Refused(number),
     }
 }

@@ -1,2 +1,3 @@
-pub mod Pivots
+pub mod Chosen
+pub mod Seeking
 pub mod Unique

@@ -1,55 +1,38 @@
--- `run_pivot::pivot` meets its contract. The loop's invariant: the columns below the end have the unknown that is sought, and the last of
--- them is in the set. Assumes nothing.
-use Rattle.run_pivot.proofs.Pivots.{Seeking, seeking-starts, seeking-finds, seeking-goes-on, seeking-ends}
+-- `run_pivot::pivot` meets its contract: the highest preferred unknown, and if there is none the highest of all. Assumes nothing.
+use Rattle.run_pivot.proofs.Chosen.{chooses-preferred, chooses-other}
 use borrow.Author.Needs.{needs}
 use Rattle.run_pivot.proofs.pivot.Statement.{statement}
 use Rattle.run_pivot.proofs.pivot.Tie as tie
 
-abbrev Inv-loop : tie.InvT-loop
-Inv-loop d-nums d-dens set end₀ end = Seeking set end d-nums d-dens
+common-requires : tie.Need-common-requires
+common-requires c κs = search needs
 
-abbrev μ-loop : tie.MeasureT-loop
-μ-loop d-nums d-dens set end₀ end = end
+highest-requires : tie.Need-highest-requires
+highest-requires c κs = search needs
 
-last-requires : tie.Need-last-requires Inv-loop μ-loop
-last-requires c κs = search needs
+enum-known-p : tie.Need-enum-known-p
+enum-known-p c = search needs
 
-loop-holds : tie.Need-loop-holds Inv-loop μ-loop
-loop-holds c = search seeking-starts
+enum-told : tie.Need-enum-told
+enum-told c = search needs
 
-sub-c : tie.Need-sub-c Inv-loop μ-loop
-sub-c c = search needs
+highest-requires-2 : tie.Need-highest-requires-2
+highest-requires-2 c κs = search needs
 
-get-requires : tie.Need-get-requires Inv-loop μ-loop
-get-requires c κs = search needs
+returns : tie.Need-returns
+returns c = search chooses-preferred
 
-returns : tie.Need-returns Inv-loop μ-loop
-returns c = search seeking-finds
-
-last-requires-2 : tie.Need-last-requires-2 Inv-loop μ-loop
-last-requires-2 c κs = search needs
-
-loop-less : tie.Need-loop-less Inv-loop μ-loop
-loop-less c = search needs
-
-loop-again : tie.Need-loop-again Inv-loop μ-loop
-loop-again c = search seeking-goes-on
-
-returns-2 : tie.Need-returns-2 Inv-loop μ-loop
-returns-2 c = search seeking-ends
+returns-2 : tie.Need-returns-2
+returns-2 c = search chooses-other
 
 pub pivot-spec : {M : Type 1} → statement M
 pivot-spec =
     tie.close
     (tie.spec
-    Inv-loop
-    μ-loop
-    last-requires
-    loop-holds
-    sub-c
-    get-requires
+    common-requires
+    highest-requires
+    enum-known-p
+    enum-told
+    highest-requires-2
     returns
-    last-requires-2
-    loop-less
-    loop-again
     returns-2)

@@ -10,7 +10,7 @@ use lib.IntN.{ℤ, pos}
 use mir.Syntax.{w32}
 use mir.Val.{ofZ}
 use Rattle.set_members.specs.Sets.{holds}
-use Rattle.set_extremes.specs.Ends.{Last}
+use Rattle.set_extremes.specs.Extremes.{Last}
 use Rattle.fraction.specs.declared.Fraction.{Fraction}
 use Rattle.fraction.specs.Exact.{value, zeroℚ, eqℚ}
 use Rattle.fraction.proofs.Equality.{eqℚ-yes, eqℚ-no}

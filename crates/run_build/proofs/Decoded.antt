@@ -3,15 +3,14 @@
 use mathlib.Core.Path.{_≡_, refl, ap}
 use mathlib.Core.Bool.{Bool, true, false, cond}
 use mathlib.Core.List.{List}
-use Prim.Native.Nat.{ℕ, suc, _+_, _-_, _*_, _^_, _≤_, _<_}
-use native.Mathlib.Nat.{pow-le-pow-right}
+use Prim.Native.Nat.{ℕ, suc, _+_, _-_, _*_, _≤_, _<_}
 use native.Mathlib.Omega.{arith}
-use lib.Pow.{pow-pos}
 use lib.ListN.{getD}
 use lib.Dec.{ltb}
 use borrow.Author.Tests.{ltb-true, ltb-false}
 use lib.IntN.{pos, negsuc, natAbs, _-ℤ_}
 use Rattle.fraction.specs.Made.{made}
+use Rattle.fraction_reduce.specs.Contract.{InRecord}
 use Rattle.rules_problem.specs.declared.Kind.{Kind}
 use Rattle.rules_problem.specs.declared.Kind.the-variants.{Variable}
 use Rattle.rules_problem.specs.declared.Term.{Term}
@@ -22,7 +21,7 @@ use Rattle.rules_problem.proofs.Recorded.{EachBelow, Recorded, variable, consta
 use Rattle.rules_problem.specs.Problem.{Problem, termAt, decoded}
 use Rattle.record_cursor.proofs.Bits.{field-below}
 use Rattle.rules_problem.proofs.Holding.{term-there}
-use Rattle.run_build_row.specs.Buildable.{Written, Holding, Below, Buildable}
+use Rattle.run_build_row.specs.Buildable.{Holding, Below, Buildable}
 
 size-either : (t : Bool) (x y n : ℕ) → suc x ≤ n → y ≤ n → natAbs (cond t (negsuc x) (pos y)) ≤ n
 size-either true x y n h k = h
@@ -39,31 +38,27 @@ signed16-within x h = go (ltb x 32768) refl
         let least = ltb-false x 32768 e in
         size-either (ltb x 65536) (65536 - suc x) (x - 65536) 32768 (omega arith) (omega arith)
 
--- 16 bits with a sign over a power of 2 up to 2^15
-scaled-written : (f : Fields) → f .mantissa < 65536 → f .shift < 16 → Written (scaled f)
+scaled-recorded : (f : Fields) → f .mantissa < 65536 → f .shift < 16 → InRecord (scaled f)
 unfolding scaled
-scaled-written f mantissa shift =
-    let small : f .shift ≤ 15 = omega arith in
-    let most : 2 ^ f .shift ≤ 2 ^ 15 = pow-le-pow-right {n = 2} (omega arith) small in
-    record { least = pow-pos (f .shift); below = most; above = signed16-within (f .mantissa) mantissa }
+scaled-recorded f mantissa shift = record { mantissa = signed16-within (f .mantissa) mantissa; shift = shift }
 
-kind-buildable : {own : ℕ} {f : Fields} {kind : Kind} → Written (scaled f) → Recorded own f kind → Buildable Written own kind
+kind-buildable : {own : ℕ} {f : Fields} {kind : Kind} → InRecord (scaled f) → Recorded own f kind → Buildable own kind
 unfolding EachBelow Holding Below
-kind-buildable written variable = record { inputs = tt; fraction = tt }
-kind-buildable written constant = record { inputs = tt; fraction = written }
-kind-buildable written (gain below) = record { inputs = below .0; fraction = written }
-kind-buildable written (sum below) = record { inputs = (below .0, below .1 .0); fraction = tt }
-kind-buildable written (difference below) = record { inputs = (below .0, below .1 .0); fraction = tt }
-kind-buildable written (lookup1 below) = record { inputs = below .0; fraction = tt }
-kind-buildable written (lookup2 below) = record { inputs = (below .0, below .1 .0); fraction = tt }
-kind-buildable written (lookup3 below) = record { inputs = (below .0, below .1 .0, below .1 .1 .0); fraction = tt }
+kind-buildable recorded variable = record { inputs = tt; fraction = tt }
+kind-buildable recorded constant = record { inputs = tt; fraction = recorded }
+kind-buildable recorded (gain below) = record { inputs = below .0; fraction = recorded }
+kind-buildable recorded (sum below) = record { inputs = (below .0, below .1 .0); fraction = tt }
+kind-buildable recorded (difference below) = record { inputs = (below .0, below .1 .0); fraction = tt }
+kind-buildable recorded (lookup1 below) = record { inputs = below .0; fraction = tt }
+kind-buildable recorded (lookup2 below) = record { inputs = (below .0, below .1 .0); fraction = tt }
+kind-buildable recorded (lookup3 below) = record { inputs = (below .0, below .1 .0, below .1 .1 .0); fraction = tt }
 
 -- A term that is decoded can be built: its inputs stand below its own number, and its fraction is small.
-pub term-buildable : (bytes : List ℕ) (t : ℕ) (term : Term) → termAt bytes t ≡ made term → Buildable Written t (term .kind)
+pub term-buildable : (bytes : List ℕ) (t : ℕ) (term : Term) → termAt bytes t ≡ made term → Buildable t (term .kind)
 unfolding fieldsAt
 term-buildable bytes t term h =
     let f = fieldsAt bytes (32 + 64 * t) in
-    kind-buildable (scaled-written f (field-below bytes 16 (32 + 64 * t + 36)) (field-below bytes 4 (32 + 64 * t + 52))) (term-recorded bytes t term h)
+    kind-buildable (scaled-recorded f (field-below bytes 16 (32 + 64 * t + 36)) (field-below bytes 4 (32 + 64 * t + 52))) (term-recorded bytes t term h)
 
 -- What is read of a term is the term of the problem.
 pub kind-there : (bytes : List ℕ) (problem : Problem) → decoded bytes ≡ made problem → (t : ℕ) {term : Term} → t < field bytes 0 8 → made term ≡ termAt bytes t → kindAt (problem .terms) t ≡ term .kind

@@ -31,7 +31,7 @@ use Rattle.run_table.specs.Work.{tableOf, Rows}
 use Rattle.run_table.proofs.Columns.{table-length, kept-itself, kept-within, kept-then}
 use Rattle.run_table.proofs.Linked.{linked-same}
 use Rattle.run_table.proofs.Turns.{stepped-done, stepped-refused, refused-not-done}
-use Rattle.run_build_row.specs.Buildable.{Written, Buildable}
+use Rattle.run_build_row.specs.Buildable.{Buildable}
 use Rattle.run_build_row.specs.Contract.{TermBuildable, TermBuilt}
 use Rattle.run_build_row.proofs.Building.{table-kept}
 use Rattle.run_build.specs.Contract.{Notable, CallNoted, Linkable, LinksNoted, Beginnable, Builds}
@@ -107,7 +107,7 @@ module _ {bytes : List ℕ} {n : ℕ} {old : Store} (asked : Beginnable bytes n 
       rising-reads = record { held = asked .held; below = omega (arith, asked .terms) }
 
       module _ {term : Term} (read : made term ≡ termAt bytes t) where
-        buildable : Buildable Written t (term .kind)
+        buildable : Buildable t (term .kind)
         buildable = term-buildable bytes t term (sym read)
 
         kind-is : (p : Problem) → decoded bytes ≡ made p → kindAt (p .terms) t ≡ term .kind

@@ -15,10 +15,10 @@ use lib.ListN.{set}
 use lib.IntN.{ℤ, pos}
 use Rattle.set_members.specs.Sets.{holds}
 use Rattle.fraction.specs.declared.Fraction.{Fraction}
-use Rattle.fraction.specs.Exact.{ℚ, value, zeroℚ, oneℚ}
+use Rattle.fraction.specs.declared.Scaled.{Scaled}
+use Rattle.fraction.specs.Exact.{ℚ, worth, value, zeroℚ, oneℚ}
 use Rattle.fraction.specs.Made.{Made, made}
 use Rattle.fraction.proofs.Field.{one-not-zero}
-use Rattle.fraction_reduce.specs.Values.{Good}
 use Rattle.fraction_reduce.proofs.Tests.{zero-stands}
 use Rattle.rules_problem.specs.declared.Kind.{Kind}
 use Rattle.rules_problem.specs.declared.Kind.the-variants.{Variable, Constant, Gain, Sum, Difference, Lookup1, Lookup2, Lookup3}
@@ -96,7 +96,7 @@ covered-one {columns} {rule} covered c below one = by (holds columns c) refl
         absurd (one-not-zero equal)
 
 -- The row of the kind that the match found is made within the set.
-module _ {kind : Kind} {t columns : ℕ} {l : Lists} (asked : Makeable kind t columns l) where
+module _ {kind : Kind} {factor : Fraction} {t columns : ℕ} {l : Lists} (asked : Makeable kind factor t columns l) where
   -- an unknown's: 01, The run: "Unknowns are variables and lookups."
   unknown-makes : {step : Step} {new : Lists} → ((c : ℕ) → columnBuilt kind t l c ≡ made (alone t oneℚ c)) → StandsAlone t t oneℚ step l new → Makes kind t columns step l new
   unfolding alone
@@ -123,14 +123,15 @@ module _ {kind : Kind} {t columns : ℕ} {l : Lists} (asked : Makeable kind t co
   lookup3-makes is = unknown-makes (λ c. ap (λ k. columnBuilt k t l c) is)
 
   -- a constant's
-  pub constant-placed : {f : Fraction} → kind ≡ Constant f → Placeable t constant f l
-  constant-placed is = record { row = asked .row; column = omega arith; good = constant-holds Good (asked .term .fraction) is }
+  pub constant-placed : Placeable t constant factor l
+  constant-placed = record { row = asked .row; column = omega arith; good = asked .fraction .good }
 
-  pub constant-makes : {f : Fraction} {step : Step} {new : Lists} → kind ≡ Constant f → StandsAlone t constant (value f) step l new → Makes kind t columns step l new
+  pub constant-makes : {s : Scaled} {step : Step} {new : Lists} → kind ≡ Constant s → StandsAlone t constant (value factor) step l new → Makes kind t columns step l new
   unfolding builtColumn
-  constant-makes {f} {step} {new} is stands =
+  constant-makes {s} {step} {new} is stands =
+      let worth-placed = subst (λ q. RowMade (λ c. made (alone constant q c)) (COLUMNS * t) (COLUMNS * (t + 1)) step (l .nums) (l .dens) (new .nums) (new .dens)) (constant-holds (λ s. value factor ≡ worth s) (asked .fraction .same) is) (stands .row-made) in
       record {
-        built = row-made-built (subst (λ k. RowMade (columnBuilt k t l) (COLUMNS * t) (COLUMNS * (t + 1)) step (l .nums) (l .dens) (new .nums) (new .dens)) (sym is) (stands .row-made));
+        built = row-made-built (subst (λ k. RowMade (columnBuilt k t l) (COLUMNS * t) (COLUMNS * (t + 1)) step (l .nums) (l .dens) (new .nums) (new .dens)) (sym is) worth-placed);
         within = stands .within columns (λ below. absurd (omega arith));
       }
 

@@ -1,6 +1,6 @@
 -- The loop over the columns of a row that is built behind the sound ones.
--- Main results: `table-kept`, `sound-kept`, `row-made-built`, `lowered-built`, `built-after`. Assume nothing.
-use mathlib.Core.Path.{_≡_, sym, ap, _∙_, subst, fun-ext}
+-- Main results: `table-kept`, `sound-kept`, `row-made-built`, `built-after`. Assume nothing.
+use mathlib.Core.Path.{_≡_, sym, ap, _∙_, subst}
 use mathlib.Core.Logic.{inl}
 use mathlib.Core.List.{List}
 use Prim.Native.Nat.{ℕ, _+_, _*_, _≤_}
@@ -16,7 +16,6 @@ use Rattle.run_table.specs.Held.{rowAt, tableAt, SoundTo}
 use Rattle.run_table.specs.Loop.{Kept, RowMade}
 use Rattle.run_table.proofs.Columns.{listed-same, kept-row, kept-then}
 use Rattle.run_build_row.specs.Contract.{RowBuilt}
-use Rattle.run_build_row.specs.Contract.{Lowered}
 
 -- The rows before one that changes stay as they are.
 pub table-kept : (t : ℕ) {end : ℕ} {nums₀ dens₀ nums dens : List ℤ} → Kept (COLUMNS * t) end nums₀ dens₀ nums dens → tableAt t nums dens ≡ tableAt t nums₀ dens₀
@@ -32,11 +31,6 @@ sound-kept m less kept sound = record { good = λ k below. subst Good (sym (kept
 -- The row that the loop has made is built.
 pub row-made-built : {kind : Kind} {t : ℕ} {step : Step} {nums₀ dens₀ nums dens : List ℤ} → RowMade (builtColumn (tableAt t nums₀ dens₀) t kind) (COLUMNS * t) (COLUMNS * (t + 1)) step nums₀ dens₀ nums dens → RowBuilt kind t step nums₀ dens₀ nums dens
 row-made-built row-made = record { ends = row-made .ends; kept = row-made .kept; sound = λ done. row-made .sound }
-
--- The row of a term whose fraction was brought to lowest terms is the term's own.
-pub lowered-built : {kind lowered : Kind} {t : ℕ} {step : Step} {nums₀ dens₀ nums dens : List ℤ} → Lowered kind lowered → RowBuilt lowered t step nums₀ dens₀ nums dens → RowBuilt kind t step nums₀ dens₀ nums dens
-lowered-built {kind} {lowered} {t} {step} {nums₀} {dens₀} same built =
-    record { ends = sym (ap row (fun-ext (same .same (tableAt t nums₀ dens₀) t))) ∙ built .ends; kept = built .kept; sound = built .sound }
 
 -- Where only row t has changed before it was built, it is built of the rows as they were at first.
 pub built-after : {kind : Kind} {t : ℕ} {step : Step} {nums₀ dens₀ nums₁ dens₁ nums dens : List ℤ} → Kept (COLUMNS * t) (COLUMNS * t + COLUMNS) nums₀ dens₀ nums₁ dens₁ → RowBuilt kind t step nums₁ dens₁ nums dens → RowBuilt kind t step nums₀ dens₀ nums dens

@@ -13,7 +13,7 @@ use mir.Syntax.{w64}
 use mir.Val.{Fits}
 use Rattle.set_members.specs.Sets.{holds}
 use Rattle.set_members.proofs.Digits.{holds-none}
-use Rattle.fraction.specs.declared.Fraction.{Fraction}
+use Rattle.fraction.specs.declared.Scaled.{Scaled}
 use Rattle.rules_problem.specs.declared.Kind.{Kind}
 use Rattle.rules_problem.specs.declared.Kind.the-variants.{Variable, Constant, Gain, Sum, Difference, Lookup1, Lookup2, Lookup3}
 use Rattle.rules_problem.proofs.Kind.{the-type}
@@ -33,11 +33,11 @@ module _ (sets : List ℕ) (own : ℕ) {kind : Kind} (c : ℕ) where
   found : {other : Kind} → kind ≡ other → mayHold sets own other c ≡ mayHold sets own kind c
   found is = ap (λ k. mayHold sets own k c) (sym is)
 
-  pub constant-columns : {f : Fraction} → kind ≡ Constant f → holds 0 c ≡ mayHold sets own kind c
+  pub constant-columns : {s : Scaled} → kind ≡ Constant s → holds 0 c ≡ mayHold sets own kind c
   unfolding mayHold
   constant-columns is = holds-none c ∙ found is
 
-  pub gain-columns : {factor : Fraction} {input : ℕ} → kind ≡ Gain factor input → holds (getD sets input 0) c ≡ mayHold sets own kind c
+  pub gain-columns : {factor : Scaled} {input : ℕ} → kind ≡ Gain factor input → holds (getD sets input 0) c ≡ mayHold sets own kind c
   unfolding mayHold columnsOf
   gain-columns is = found is
 

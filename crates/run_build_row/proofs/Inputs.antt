@@ -2,13 +2,13 @@
 -- Main results: `gain-below`, `sum-left`, `sum-right`, `difference-left`, `difference-right`, `constant-holds`, `gain-holds`. Assume nothing.
 use mathlib.Core.Path.{_≡_, subst}
 use Prim.Native.Nat.{ℕ, _<_}
-use Rattle.fraction.specs.declared.Fraction.{Fraction}
+use Rattle.fraction.specs.declared.Scaled.{Scaled}
 use Rattle.rules_problem.specs.declared.Kind.{Kind}
 use Rattle.rules_problem.specs.declared.Kind.the-variants.{Constant, Gain, Sum, Difference}
 use Rattle.run_build_row.specs.Buildable.{Holding, Below}
 
 module _ {own : ℕ} {kind : Kind} (inputs : Below own kind) where
-  pub gain-below : {factor : Fraction} {input : ℕ} → kind ≡ Gain factor input → input < own
+  pub gain-below : {factor : Scaled} {input : ℕ} → kind ≡ Gain factor input → input < own
   unfolding Below
   gain-below is = subst (Below own) is inputs
 
@@ -28,12 +28,12 @@ module _ {own : ℕ} {kind : Kind} (inputs : Below own kind) where
   unfolding Below
   difference-right is = subst (Below own) is inputs .1
 
--- A constant and a gain hold their fraction as the term has it: in lowest terms, or as the record has it.
-module _ (P : Fraction → Type 0) {kind : Kind} (fraction : Holding P kind) where
-  pub constant-holds : {f : Fraction} → kind ≡ Constant f → P f
+-- A constant and a gain hold a fraction as the term should.
+module _ (P : Scaled → Type 0) {kind : Kind} (fraction : Holding P kind) where
+  pub constant-holds : {s : Scaled} → kind ≡ Constant s → P s
   unfolding Holding
   constant-holds is = subst (Holding P) is fraction
 
-  pub gain-holds : {factor : Fraction} {input : ℕ} → kind ≡ Gain factor input → P factor
+  pub gain-holds : {factor : Scaled} {input : ℕ} → kind ≡ Gain factor input → P factor
   unfolding Holding
   gain-holds is = subst (Holding P) is fraction

@@ -8,6 +8,7 @@ use lib.IntN.{ℤ}
 use Rattle.set_extremes.specs.Extremes.{Next}
 use Rattle.fraction_reduce.specs.declared.Tested.{Tested}
 use Rattle.fraction_reduce.specs.Values.{Answers}
+use Rattle.fraction.specs.declared.Fraction.{Fraction}
 use Rattle.rules_problem.specs.declared.Kind.{Kind}
 use Rattle.rules_run.specs.Row.{COLUMNS}
 use Rattle.rules_run.specs.Build.{builtColumn}
@@ -23,7 +24,7 @@ use Rattle.run_build_row.proofs.Sparse.{blank-sound, blank-within, blan
 abbrev pub Joining : (kind : Kind) (t columns c rest : ℕ) (old : Lists) (nums dens : List ℤ) → Type 0
 Joining kind t columns c rest old nums dens = Taking (columnBuilt kind t old) (COLUMNS * t) (COLUMNS * (t + 1)) columns c rest (old .nums) (old .dens) nums dens
 
-module _ {kind : Kind} {t columns : ℕ} {old : Lists} (asked : Joinable kind t columns old) where
+module _ {kind : Kind} {factor : Fraction} {t columns : ℕ} {old : Lists} (asked : Joinable kind factor t columns old) where
   pub joining-starts : Joining kind t columns 0 columns old (old .nums) (old .dens)
   joining-starts =
       let row = asked .asked .row in
@@ -33,7 +34,7 @@ module _ {kind : Kind} {t columns : ℕ} {old : Lists} (asked : Joinable kind t 
 
   module _ {c rest : ℕ} (at : ℕ) {nums dens : List ℤ} (joining : Joining kind t columns c rest old nums dens) where
     -- The place of the next column is there, and the rows before row t are as they were, so that its column can be combined.
-    pub joining-reads : Next rest 0 at → Combinable kind t at (both nums dens)
+    pub joining-reads : Next rest 0 at → Combinable kind factor t at (both nums dens)
     joining-reads next =
         let room = asked .asked .row .rows .room in
         let making = joining .going .making in
@@ -43,7 +44,8 @@ module _ {kind : Kind} {t columns : ℕ} {old : Lists} (asked : Joinable kind t 
             sound = sound-fewer (COLUMNS * t) (omega arith) (making .sound);
           };
           column = omega (arith, next .most);
-          term = asked .asked .term;
+          inputs = asked .asked .inputs;
+          fraction = asked .asked .fraction;
           combined = asked .combined;
         }
 

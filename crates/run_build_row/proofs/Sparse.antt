@@ -13,7 +13,7 @@ use lib.ListN.{getD, set, length}
 use lib.Seq.{getD-set-same, getD-set-other}
 use lib.IntN.{ℤ, pos}
 use Rattle.set_members.specs.Sets.{holds}
-use Rattle.fraction.specs.Exact.{ℚ, value, zeroℚ, _+ℚ_, _-ℚ_, _*ℚ_}
+use Rattle.fraction.specs.Exact.{ℚ, worth, value, zeroℚ, _+ℚ_, _-ℚ_, _*ℚ_}
 use Rattle.fraction.specs.Limits.{tested, plus, minus, times}
 use Rattle.fraction.specs.Made.{Made, made}
 use Rattle.fraction.proofs.Field.{plus-zero, plus-inverse, times-zero, minus-is-plus}
@@ -93,9 +93,9 @@ module _ (nums dens : List ℤ) (sets : List ℕ) (t : ℕ) (sound : SoundTo (CO
   may-hold-zero : (kind : Kind) (c : ℕ) → Below t kind → c < TERMS → mayHold sets t kind c ≡ false → builtColumn (tableAt t nums dens) t kind c ≡ made zeroℚ
   unfolding builtColumn mayHold Below times plus minus
   may-hold-zero (Variable symbol) c inputs below out = alone-zero t _ c out
-  may-hold-zero (Constant held) c inputs below out = alone-zero constant (value held) c (ne-eqb c constant (λ same. omega arith))
+  may-hold-zero (Constant held) c inputs below out = alone-zero constant (worth held) c (ne-eqb c constant (λ same. omega arith))
   may-hold-zero (Gain factor input) c inputs below out =
-      ap tested (ap (λ q. value factor *ℚ q) (cell-zero input c inputs below out) ∙ times-zero (value factor)) ∙ zero-passes
+      ap tested (ap (λ q. worth factor *ℚ q) (cell-zero input c inputs below out) ∙ times-zero (worth factor)) ∙ zero-passes
   may-hold-zero (Sum left right) c inputs below out =
       let (no-left, no-right) = both-false (holds (columnsOf sets left) c) (holds (columnsOf sets right) c) out in
       ap tested (ap₂ _+ℚ_ (cell-zero left c (inputs .0) below no-left) (cell-zero right c (inputs .1) below no-right) ∙ plus-zero zeroℚ) ∙ zero-passes

@@ -1,19 +1,17 @@
 -- What a term must be for its row to be built.
--- Main definitions: `Written`, `Holding`, `Below`, `Buildable`, `Combined`. Assumes nothing.
-use Prim.Native.Nat.{ℕ, _≤_, _<_}
-use lib.IntN.{natAbs}
+-- Main definitions: `Holding`, `Below`, `Buildable`, `FactorOf`, `Combined`. Assumes nothing.
+use mathlib.Core.Path.{_≡_}
+use Prim.Native.Nat.{ℕ, _<_}
 use Rattle.fraction.specs.declared.Fraction.{Fraction}
+use Rattle.fraction.specs.declared.Scaled.{Scaled}
+use Rattle.fraction.specs.Exact.{worth, value}
+use Rattle.fraction_reduce.specs.Contract.{InRecord}
+use Rattle.fraction_reduce.specs.Values.{Good}
 use Rattle.rules_problem.specs.declared.Kind.{Kind}
 use Rattle.rules_problem.specs.declared.Kind.the-variants.{Variable, Constant, Gain, Sum, Difference, Lookup1, Lookup2, Lookup3}
 
--- mantissa / 2^shift as a record has it, not in lowest terms: 16 bits with a sign over a power up to 2^15
-pub record Written (f : Fraction) : Type 0 where
-  pub least : 1 ≤ natAbs (f .den)
-  pub below : natAbs (f .den) ≤ 32768
-  pub above : natAbs (f .num) ≤ 32768
-
 -- the fraction of a constant or a gain is as P says
-unfoldable pub Holding : (P : Fraction → Type 0) → Kind → Type 0
+unfoldable pub Holding : (P : Scaled → Type 0) → Kind → Type 0
 Holding P (Variable symbol) = Unit {0}
 Holding P (Constant value) = P value
 Holding P (Gain factor input) = P factor
@@ -34,10 +32,15 @@ Below own (Lookup1 symbol input) = input < own
 Below own (Lookup2 symbol first second) = (first < own) × (second < own)
 Below own (Lookup3 symbol first second third) = (first < own) × (second < own) × (third < own)
 
--- a term t whose inputs lie before it, with its fraction as P says
-pub record Buildable (P : Fraction → Type 0) (own : ℕ) (kind : Kind) : Type 0 where
+-- a term whose inputs lie before it, and whose fraction is one of a record
+pub record Buildable (own : ℕ) (kind : Kind) : Type 0 where
   pub inputs : Below own kind
-  pub fraction : Holding P kind
+  pub fraction : Holding InRecord kind
+
+-- f is in lowest terms, and is what the fraction of a constant or a gain is worth
+pub record FactorOf (kind : Kind) (f : Fraction) : Type 0 where
+  pub good : Good f
+  pub same : Holding (λ s. value f ≡ worth s) kind
 
 -- a row that is made of earlier ones: a gain's, a sum's or a difference's
 unfoldable pub Combined : Kind → Type 0

@@ -14,7 +14,7 @@ use Rattle.fraction.specs.Exact.{ℚ}
 use Rattle.fraction.specs.Made.{Made, made}
 use Rattle.fraction_reduce.specs.Values.{Good}
 use Rattle.rules_problem.specs.declared.Kind.{Kind}
-use Rattle.rules_run.specs.Row.{TERMS, COLUMNS, PLACES, Table, row}
+use Rattle.rules_run.specs.Row.{TERMS, COLUMNS, PLACES, row}
 use Rattle.rules_run.specs.Build.{alone, builtColumn}
 use Rattle.run_table.specs.declared.Step.{Step}
 use Rattle.run_table.specs.declared.Step.the-variants.{Done}
@@ -23,7 +23,7 @@ use Rattle.run_table.specs.Lists.{Lists}
 use Rattle.run_table.specs.Loop.{Kept, RowMade}
 use Rattle.run_table.specs.Sets.{SETS, Within, Sparse}
 use Rattle.run_table.specs.Work.{Work, Rows}
-use Rattle.run_build_row.specs.Buildable.{Written, Holding, Below, Buildable, Combined}
+use Rattle.run_build_row.specs.Buildable.{Below, Buildable, FactorOf, Combined}
 use Rattle.run_build_row.specs.Sparse.{Covered, Blank}
 
 -- column c of row t as the rule makes it of the rows before it
@@ -51,17 +51,12 @@ pub record Behind (t : ℕ) (l : Lists) : Type 0 where
   pub sound : SoundTo (COLUMNS * t) (l .nums) (l .dens)
 
 -- Column c of row t can be combined from earlier rows.
-pub record Combinable (kind : Kind) (t c : ℕ) (l : Lists) : Type 0 where
+pub record Combinable (kind : Kind) (factor : Fraction) (t c : ℕ) (l : Lists) : Type 0 where
   pub rows : Behind t l
   pub column : c < COLUMNS
-  pub term : Buildable Good t kind
+  pub inputs : Below t kind
+  pub fraction : FactorOf kind factor
   pub combined : Combined kind
-
--- The second term's fraction is in lowest terms, and the same row is built of both.
-pub record Lowered (kind lowered : Kind) : Type 0 where
-  pub fraction : Holding Good lowered
-  pub inputs : (own : ℕ) → Below own kind → Below own lowered
-  pub same : (table : Table) (own c : ℕ) → builtColumn table own lowered c ≡ builtColumn table own kind c
 
 -- Row t is made blank, and no other place has changed.
 pub record Blanks (t : ℕ) (old new : Lists) : Type 0 where
@@ -91,14 +86,15 @@ pub record StandsAlone (t only : ℕ) (q : ℚ) (step : Step) (old new : Lists) 
   pub within : (set : ℕ) → (only < TERMS → holds set only ≡ true) → Within set (COLUMNS * t) (new .nums)
 
 -- Row t is blank, its term can be built, and the rule makes 0 of each term's column outside the set.
-pub record Makeable (kind : Kind) (t columns : ℕ) (l : Lists) : Type 0 where
+pub record Makeable (kind : Kind) (factor : Fraction) (t columns : ℕ) (l : Lists) : Type 0 where
   pub row : Blanked t l
-  pub term : Buildable Good t kind
+  pub inputs : Below t kind
+  pub fraction : FactorOf kind factor
   pub covered : Covered columns (columnBuilt kind t l)
 
 -- And it is made of earlier rows.
-pub record Joinable (kind : Kind) (t columns : ℕ) (l : Lists) : Type 0 where
-  pub asked : Makeable kind t columns l
+pub record Joinable (kind : Kind) (factor : Fraction) (t columns : ℕ) (l : Lists) : Type 0 where
+  pub asked : Makeable kind factor t columns l
   pub combined : Combined kind
 
 -- Row t is the one that the rule makes of the rows before it, or the rule refuses it; no other place has changed; where it is made, the
@@ -117,7 +113,7 @@ pub record Makes (kind : Kind) (t columns : ℕ) (step : Step) (old new : Lists)
 pub record TermBuildable (kind : Kind) (t : ℕ) (w : Work) : Type 0 where
   pub few : t < TERMS
   pub rows : Rows t w
-  pub term : Buildable Written t kind
+  pub term : Buildable t kind
 
 -- Row t is built, or refused, and its columns are noted in its set; no other set has changed.
 pub record TermBuilt (kind : Kind) (t : ℕ) (step : Step) (old new : Work) : Type 0 where

@@ -10,11 +10,12 @@ ghost use mathlib.Core.Path.{_≡_};
 ghost use Prim.Native.Nat.{ℕ};
 ghost use Rattle.set_members.specs.Sets.{holds};
 ghost use Rattle.fraction.specs.Exact.{value, oneℚ};
+ghost use Rattle.fraction_reduce.specs.Contract.{InRecord};
 ghost use Rattle.fraction_reduce.specs.Values.{Answers};
 ghost use Rattle.run_table.specs.Lists.{lists, atEntry, atExit};
 ghost use Rattle.run_table.specs.Work.{lent, entered, leaving};
-ghost use Rattle.run_build_row.specs.Buildable.{Written, Holding};
-ghost use Rattle.run_build_row.specs.Contract.{columnBuilt, cellAt, Room, Readable, Combinable, Lowered, Blanks, Coverable};
+ghost use Rattle.run_build_row.specs.Buildable.{Holding, FactorOf};
+ghost use Rattle.run_build_row.specs.Contract.{columnBuilt, cellAt, Room, Readable, Combinable, Blanks, Coverable};
 ghost use Rattle.run_build_row.specs.Contract.{Blanked, Placeable, StandsAlone, Makeable, Joinable, Makes, TermBuildable, TermBuilt};
 ghost use Rattle.run_build_row.specs.Sparse.{mayHold};
 
@@ -29,16 +30,23 @@ fn cell(nums: &[i32], dens: &[i32], t: usize, c: usize) -> Fraction
     run_table::get(nums, dens, COLUMNS * t + c)
 }
 
-// Column c of the row of a gain, a sum or a difference, whose fraction is in lowest terms.
-fn built_column(kind: Kind, t: usize, c: usize, nums: &[i32], dens: &[i32]) -> Tested
-    requires { ⌜ Combinable kind t c (lists nums dens) ⌝ }
+// Column c of the row of a gain, a sum or a difference; a gain's factor is handed in, in lowest terms.
+fn built_column(
+    kind: Kind,
+    factor: Fraction,
+    t: usize,
+    c: usize,
+    nums: &[i32],
+    dens: &[i32],
+) -> Tested
+    requires { ⌜ Combinable kind factor t c (lists nums dens) ⌝ }
     ensures { λ r. ⌜ Answers r (columnBuilt kind t (atEntry nums dens) c) ⌝ }
 {
     match kind {
-        Kind::Gain { factor, input } => fraction_product::product(
-            factor,
-            cell(nums, dens, input, c),
-        ),
+        Kind::Gain {
+            factor: written,
+            input,
+        } => fraction_product::product(factor, cell(nums, dens, input, c)),
         Kind::Sum { left, right } => {
             fraction_sum::sum(cell(nums, dens, left, c), cell(nums, dens, right, c))
         }
@@ -49,20 +57,15 @@ fn built_column(kind: Kind, t: usize, c: usize, nums: &[i32], dens: &[i32]) -> T
     }
 }
 
-// The kind with its fraction in lowest terms.
-fn lowered(kind: Kind) -> Kind
-    requires { ⌜ Holding Written kind ⌝ }
-    ensures { λ r. ⌜ Lowered kind r ⌝ }
+// The fraction of a constant or a gain in lowest terms; 0 for the other kinds, which hold none.
+fn factor_of(kind: Kind) -> Fraction
+    requires { ⌜ Holding InRecord kind ⌝ }
+    ensures { λ r. ⌜ FactorOf kind r ⌝ }
 {
     match kind {
-        Kind::Constant { value } => Kind::Constant {
-            value: fraction_reduce::lowered(value),
-        },
-        Kind::Gain { factor, input } => Kind::Gain {
-            factor: fraction_reduce::lowered(factor),
-            input: input,
-        },
-        _ => kind,
+        Kind::Constant { value } => fraction_reduce::lowered(value),
+        Kind::Gain { factor, input } => fraction_reduce::lowered(factor),
+        _ => Fraction { num: 0, den: 1 },
     }
 }
 
@@ -110,15 +113,22 @@ fn unknown_row(t: usize, nums: &mut [i32], dens: &mut [i32]) -> Step
 
 // The row of a gain, a sum or a difference, from column to column of the set and last the constant's, until one is refused. The row is
 // blank, and the rule makes 0 outside the set.
-fn built_row(kind: Kind, t: usize, columns: u64, nums: &mut [i32], dens: &mut [i32]) -> Step
-    requires { ⌜ Joinable kind t columns (lists nums dens) ⌝ }
+fn built_row(
+    kind: Kind,
+    factor: Fraction,
+    t: usize,
+    columns: u64,
+    nums: &mut [i32],
+    dens: &mut [i32],
+) -> Step
+    requires { ⌜ Joinable kind factor t columns (lists nums dens) ⌝ }
     ensures { λ r. ⌜ Makes kind t columns r (atEntry nums dens) (atExit nums dens) ⌝ }
 {
     let mut rest = columns;
     let mut c: usize = 0;
     while c < COLUMNS {
         let at = set_extremes::first(rest);
-        match built_column(kind, t, at, nums, dens) {
+        match built_column(kind, factor, t, at, nums, dens) {
             Tested::Fits(f) => {
                 run_table::put(nums, dens, COLUMNS * t + at, f);
                 rest = set_extremes::rest(rest);
@@ -131,13 +141,20 @@ fn built_row(kind: Kind, t: usize, columns: u64, nums: &mut [i32], dens: &mut [i
 }
 
 // The row of term t, which is blank, and for which the rule makes 0 outside the set.
-fn term_row(kind: Kind, t: usize, columns: u64, nums: &mut [i32], dens: &mut [i32]) -> Step
-    requires { ⌜ Makeable kind t columns (lists nums dens) ⌝ }
+fn term_row(
+    kind: Kind,
+    factor: Fraction,
+    t: usize,
+    columns: u64,
+    nums: &mut [i32],
+    dens: &mut [i32],
+) -> Step
+    requires { ⌜ Makeable kind factor t columns (lists nums dens) ⌝ }
     ensures { λ r. ⌜ Makes kind t columns r (atEntry nums dens) (atExit nums dens) ⌝ }
 {
     match kind {
         Kind::Variable { symbol } => unknown_row(t, nums, dens),
-        Kind::Constant { value } => alone_row(t, CONSTANT, value, nums, dens),
+        Kind::Constant { value } => alone_row(t, CONSTANT, factor, nums, dens),
         Kind::Lookup1 { symbol, input } => unknown_row(t, nums, dens),
         Kind::Lookup2 {
             symbol,
@@ -150,7 +167,7 @@ fn term_row(kind: Kind, t: usize, columns: u64, nums: &mut [i32], dens: &mut [i3
             second,
             third,
         } => unknown_row(t, nums, dens),
-        _ => built_row(kind, t, columns, nums, dens),
+        _ => built_row(kind, factor, t, columns, nums, dens),
     }
 }
 
@@ -165,11 +182,11 @@ pub fn build_term(
     requires { ⌜ TermBuildable (term .kind) t (lent nums dens sets) ⌝ }
     ensures { λ r. ⌜ TermBuilt (term .kind) t r (entered nums dens sets) (leaving nums dens sets) ⌝ }
 {
-    let written = term.kind;
-    let kind = lowered(written);
+    let kind = term.kind;
+    let factor = factor_of(kind);
     let columns = columns_of(kind, t, sets);
     blank_row(t, nums, dens);
-    let step = term_row(kind, t, columns, nums, dens);
+    let step = term_row(kind, factor, t, columns, nums, dens);
     sets[t] = columns;
     step
 }

@@ -4,8 +4,8 @@ use borrow.Author.Needs.{needs}
 use Rattle.run_build_row.proofs.build_term.Statement.{statement}
 use Rattle.run_build_row.proofs.build_term.Tie as tie
 
-lowered-requires : tie.Need-lowered-requires
-lowered-requires c κs = search needs
+factor-of-requires : tie.Need-factor-of-requires
+factor-of-requires c κs = search needs
 
 columns-of-requires : tie.Need-columns-of-requires
 columns-of-requires c κs = search term-coverable
@@ -38,7 +38,7 @@ pub build-term-spec : {M : Type 1} → statement M
 build-term-spec =
     tie.close
     (tie.spec
-    lowered-requires
+    factor-of-requires
     columns-of-requires
     blank-row-requires
     term-row-requires

@@ -1,8 +1,7 @@
 -- `run_build_row::built_column` meets its contract: the operation of the term's kind, on what its inputs' rows hold. Assumes nothing.
 use Rattle.run_build_row.proofs.Alone.{not-combined}
 use Rattle.run_build_row.proofs.Combining.{earlier-read, earlier-good, gain-answers, sum-answers, difference-answers}
-use Rattle.run_build_row.proofs.Inputs.{gain-below, sum-left, sum-right, difference-left, difference-right, gain-holds}
-use Rattle.fraction_reduce.specs.Values.{Good}
+use Rattle.run_build_row.proofs.Inputs.{gain-below, sum-left, sum-right, difference-left, difference-right}
 use borrow.Author.Needs.{needs}
 use Rattle.run_build_row.proofs.built_column.Statement.{statement}
 use Rattle.run_build_row.proofs.built_column.Tie as tie
@@ -14,7 +13,7 @@ cell-requires : tie.Need-cell-requires
 cell-requires c κs = search (earlier-read, gain-below)
 
 product-requires : tie.Need-product-requires
-product-requires c κs = search (gain-holds Good, earlier-good, gain-below)
+product-requires c κs = search (earlier-good, gain-below)
 
 enum-known-kind-2 : tie.Need-enum-known-kind-2
 enum-known-kind-2 c = search needs

@@ -11,10 +11,10 @@ use Rattle.run_build_row.proofs.built_row.Statement.{statement}
 use Rattle.run_build_row.proofs.built_row.Tie as tie
 
 abbrev Inv-loop : tie.InvT-loop
-Inv-loop kind t columns nums₀ dens₀ rest₀ c₀ nums dens rest c = Joining kind t columns c rest (both nums₀ dens₀) nums dens
+Inv-loop kind factor t columns nums₀ dens₀ rest₀ c₀ nums dens rest c = Joining kind t columns c rest (both nums₀ dens₀) nums dens
 
 abbrev μ-loop : tie.MeasureT-loop
-μ-loop kind t columns nums₀ dens₀ rest₀ c₀ nums dens rest c = COLUMNS - c
+μ-loop kind factor t columns nums₀ dens₀ rest₀ c₀ nums dens rest c = COLUMNS - c
 
 loop-holds : tie.Need-loop-holds Inv-loop μ-loop
 loop-holds c = search joining-starts

@@ -1,4 +1,3 @@
-mod Limits
 mod Rows
 mod Pages
 mod Printed

@@ -10,7 +10,7 @@ use Rattle.rules_problem.specs.Problem.{Problem}
 use Rattle.rules_run.specs.Row.{Table, COLUMNS}
 use Rattle.rules_run.specs.Run.{byNumber, highestNumber, begin, assume, run}
 use Rattle.run_table.specs.Loop.{Kept}
-use Rattle.run_table.specs.Sparse.{Sparse}
+use Rattle.run_table.specs.Sets.{Sparse}
 use Rattle.run_table.specs.Work.{Work, Rows}
 use Rattle.run_table.proofs.Columns.{kept-then}
 use Rattle.run_progress.specs.declared.Ran.{Ran}

@@ -1,5 +1,4 @@
-mod Enough
-mod Limits
+mod Rows
 mod Pages
 mod Printed
-mod Rows
+mod Enough

@@ -19,7 +19,7 @@ use Rattle.list_lines.specs.Leaves.{reachedOf, leaves, listFirst}
 use Rattle.list_row_line.proofs.Lines.{row-line-length}
 use Rattle.list_lines.proofs.Refused.{row-listed, first-listed}
 use Rattle.list_page.specs.Page.{rowsListed, behind, listRows, listPage}
-use Rattle.agree.proofs.Limits.{Limited}
+use Rattle.laws_invariant.proofs.Limits.{Limited}
 use Rattle.agree.proofs.Rows.{numeratorsOf, denominatorsOf, row-listable, row-line}
 
 -- what is left where a place is reached

@@ -23,7 +23,7 @@ use Rattle.rules_listing.specs.Listing.{isFraction, allFractions, placesOf}
 use Rattle.list_fractions.specs.Listable.{Listable, rowHeld}
 use Rattle.list_fractions.proofs.Places.{places-length, places-at}
 use Rattle.list_pieces.proofs.Rows.{row-pieces-step}
-use Rattle.agree.proofs.Limits.{Limited}
+use Rattle.laws_invariant.proofs.Limits.{Limited}
 
 -- A fraction within the limits passes the test of a place,
 fraction-passes : (q : ℚ) → within q ≡ true → isFraction (q .num) (pos (q .den)) ≡ true

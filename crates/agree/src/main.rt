@@ -5,7 +5,7 @@ use rules_problem::PLACES;
 ghost use mathlib.Core.Path.{_≡_};
 ghost use Prim.Native.Nat.{_≤_};
 ghost use lib.ListN.{length, take};
-ghost use Rattle.rules_run.specs.Run.{byNumber};
+ghost use Rattle.rules_run.specs.Run.{highestNumber};
 ghost use Rattle.rules_listing.specs.Listing.{listing};
 
 // 01, The listing: "645 bytes are enough to judge any length".
@@ -15,7 +15,7 @@ const INPUT: usize = 645;
 fn list(bytes: &[u8], text: &mut [u8]) -> usize
     requires { ⌜ 133120 ≤ length (now text) ⌝ }
     ensures { λ r. ⌜ r ≤ length (now (text .exit)) ⌝ }
-    ensures { λ r. ⌜ take r (now (text .exit)) ≡ listing byNumber (now (bytes .entry)) ⌝ }
+    ensures { λ r. ⌜ take r (now (text .exit)) ≡ listing highestNumber (now (bytes .entry)) ⌝ }
 {
     let mut nums = [0i32; PLACES];
     let mut dens = [0i32; PLACES];

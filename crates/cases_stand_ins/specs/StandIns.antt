@@ -1,29 +1,30 @@
--- The stand-ins that document 01 names, as programs. Each is the rules but for its one fault.
--- Main definitions: `refusesAll`, `saysNotEntailed`, `leavesUnfolded`, `writesNothing`, `mergesFirstOnly`, `countsOneMore`. Assumes nothing.
+-- The stand-ins that document 01 names, as programs, and one more that demand 2 does not look at. Each is the rules but for its one fault.
+-- Main definitions: `refusesAll`, `saysNotEntailed`, `leavesUnfolded`, `writesNothing`, `mergesFirstOnly`, `countsOneMore`, `keepsAfterStop`. Assumes nothing.
+use mathlib.Core.Bool.{cond}
 use mathlib.Core.List.{[]}
 use Prim.Native.Nat.{ℕ, suc}
 use lib.ListN.{take}
 use Rattle.answer.specs.declared.Answer.{Answer}
 use Rattle.answer.specs.declared.Answer.the-variants.{Entailed, NotEntailed, Contradictory, Refused}
-use Rattle.answer.specs.Refusals.{Refusal, COUNT}
+use Rattle.answer.specs.Refusals.{Refusal, SPACE}
 use Rattle.answer.specs.Said.{said}
 use Rattle.fraction.specs.Made.{Made, made, stopped}
 use Rattle.rules_problem.specs.Problem.{Problem, decoded}
 use Rattle.rules_run.specs.Row.{Table}
 use Rattle.rules_run.specs.Build.{built}
-use Rattle.rules_run.specs.Run.{byNumber}
-use Rattle.rules_outcome.specs.Outcome.{finished, afterReading, decision, answered, after, outcome}
+use Rattle.rules_run.specs.Run.{highestNumber}
+use Rattle.rules_outcome.specs.Outcome.{Decision, unread, cutShort, finished, afterReading, decision, answered, Lent, isLong, Outcome, after, outcome}
 use Rattle.rules_demands.specs.Demands.{Program}
 
--- 01: "one that refuses all"
-unfoldable pub refusesAll : Program
-refusesAll bytes numerators denominators = record { answer = Refused COUNT 0; numerators = numerators; denominators = denominators }
+-- 01: "one that refuses all": with any number, at any place
+unfoldable pub refusesAll : (number place : ℕ) → Program
+refusesAll number place bytes lent = record { answer = Refused number place; left = lent }
 
 -- "one that says not-entailed to all"
 unfoldable pub saysNotEntailed : Program
-saysNotEntailed bytes numerators denominators =
-    let o = outcome byNumber bytes numerators denominators in
-    record { answer = NotEntailed (said (o .answer) .count); numerators = o .numerators; denominators = o .denominators }
+saysNotEntailed bytes lent =
+    let o = outcome highestNumber bytes lent in
+    record { answer = NotEntailed (said (o .answer) .count); left = o .left }
 
 -- the rows that are built of a problem's terms
 unfoldable pub rowsMade : Made ℕ Table → Table
@@ -37,11 +38,11 @@ rowsBuilt (stopped refusal) = []
 -- "or leaves the unfolded rows"
 unfoldable pub leavesUnfolded : Program
 unfolding rowsMade rowsBuilt
-leavesUnfolded bytes numerators denominators = after (finished (answered (decision byNumber bytes)) (rowsBuilt (decoded bytes))) numerators denominators
+leavesUnfolded bytes lent = after (finished (answered (decision highestNumber bytes)) (rowsBuilt (decoded bytes))) lent
 
 -- "one that writes nothing"
 unfoldable pub writesNothing : Program
-writesNothing bytes numerators denominators = record { answer = answered (decision byNumber bytes); numerators = numerators; denominators = denominators }
+writesNothing bytes lent = record { answer = answered (decision highestNumber bytes); left = lent }
 
 -- the problem with its first assumption only
 unfoldable pub firstOnly : Made Refusal Problem → Made Refusal Problem
@@ -51,7 +52,7 @@ firstOnly (stopped refusal) = stopped refusal
 -- "one that merges the first assumption and passes over the rest"
 unfoldable pub mergesFirstOnly : Program
 unfolding firstOnly
-mergesFirstOnly bytes numerators denominators = after (afterReading byNumber (firstOnly (decoded bytes))) numerators denominators
+mergesFirstOnly bytes lent = after (afterReading highestNumber (firstOnly (decoded bytes))) lent
 
 unfoldable pub oneMore : Answer → Answer
 oneMore (Entailed solved) = Entailed (suc solved)
@@ -62,6 +63,17 @@ oneMore (Refused number place) = Refused number place
 -- "A made-up solved count"
 unfoldable pub countsOneMore : Program
 unfolding oneMore
-countsOneMore bytes numerators denominators =
-    let o = outcome byNumber bytes numerators denominators in
-    record { answer = oneMore (o .answer); numerators = o .numerators; denominators = o .denominators }
+countsOneMore bytes lent =
+    let o = outcome highestNumber bytes lent in
+    record { answer = oneMore (o .answer); left = o .left }
+
+unfoldable pub keptAfterStop : Decision → Lent → Outcome
+keptAfterStop (unread refusal) lent = after (unread refusal) lent
+keptAfterStop (cutShort answer) lent = record { answer = answer; left = lent }
+keptAfterStop (finished answer table) lent = after (finished answer table) lent
+
+-- one that writes nothing after contradictory or 7: every word is right, and so is every finished table
+unfoldable pub keepsAfterStop : Program
+unfolding keptAfterStop
+keepsAfterStop bytes lent =
+    cond (isLong lent) (keptAfterStop (decision highestNumber bytes) lent) (after (unread (record { number = SPACE; place = 0 })) lent)

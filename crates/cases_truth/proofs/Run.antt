@@ -19,20 +19,20 @@ use Rattle.rules_reading.specs.Forced.{Met}
 use Rattle.laws_valuation.specs.Sound.{Sound}
 use Rattle.laws_valuation.specs.Valuation.{Valuation}
 use Rattle.laws_valuation.proofs.Decoded.{decoded-sound}
-use Rattle.rules_run.specs.Row.{TERMS}
 use Rattle.rules_run.specs.Merge.{State}
-use Rattle.rules_run.specs.Run.{byNumber, run}
+use Rattle.rules_run.specs.Run.{highestNumber, run}
 use Rattle.rules_run.specs.Computed.{computedRun}
-use Rattle.laws_invariant.specs.Rows.{EqualRows}
-use Rattle.laws_invariant.specs.Invariant.{Meets, Completed}
+use Rattle.laws_invariant.specs.Rows.{EqualCells}
+use Rattle.laws_invariant.specs.Invariant.{ValuesMeet, Completed}
 use Rattle.laws_invariant.proofs.Pivot.{last-or-before}
 use Rattle.laws_truth.specs.Numbers.{weightedNumber}
 use Rattle.laws_truth.specs.Sums.{weighted, weightedRow}
 use Rattle.laws_truth.proofs.Balanced.{balanced-exactly}
 use Rattle.laws_truth.proofs.Decided.{finished-complete}
 use Rattle.laws_truth.proofs.Equated.{told-apart}
-use Rattle.laws_invariant.proofs.Granted.{by-number-one-to-one, sound-shaped}
-use Rattle.cases_truth.specs.Problems.{bytesOf, problemA}
+use Rattle.laws_invariant.proofs.Granted.{highest-number-strict, sound-shaped}
+use Rattle.cases_starred.specs.Table.{caseA}
+use Rattle.cases_truth.specs.Problems.{problemA}
 use Rattle.cases_truth.proofs.Shown.{caseA-not-entailed}
 
 -- whether the first columns are zero
@@ -53,12 +53,12 @@ ending (made state) = state
 ending (stopped answer) = record { table = []; solved = 0 }
 
 unfoldable pub stateA : State
-stateA = ending (run byNumber problemA)
+stateA = ending (run highestNumber problemA)
 
 a-sound : Sound problemA
-a-sound = decoded-sound (bytesOf 0) problemA (caseA-not-entailed .holds)
+a-sound = decoded-sound (caseA .problem) problemA (caseA-not-entailed .holds)
 
-pub a-finished : run byNumber problemA ≡ made stateA
+pub a-finished : run highestNumber problemA ≡ made stateA
 unfolding computedRun problemA ending stateA
 a-finished = refl
 
@@ -71,14 +71,14 @@ unfolding computedRun problemA ending stateA zeros twice weightedRow weighted su
 a-zero = refl
 
 -- The run of case A ends with the invariant and a closed table,
-pub a-complete : Completed byNumber (problemA .terms) (problemA .pairs) (problemA .pairs) stateA
-a-complete = finished-complete byNumber problemA by-number-one-to-one a-sound stateA a-finished
+pub a-complete : Completed (highestNumber (problemA .terms)) (problemA .terms) (problemA .pairs) (problemA .pairs) stateA
+a-complete = finished-complete highestNumber problemA highest-number-strict a-sound stateA a-finished
 
 -- a valuation meets its assumption that tells different rows apart,
-pub a-model : (v : ℕ → ℚ) × Valuation (problemA .terms) v × Meets v (problemA .pairs) × ((t u : ℕ) → t < length (problemA .terms) → u < length (problemA .terms) → (v t ≡ v u) ↔ EqualRows (stateA .table) t u)
+pub a-model : (v : ℕ → ℚ) × Valuation (problemA .terms) v × ValuesMeet v (problemA .pairs) × ((t u : ℕ) → t < length (problemA .terms) → u < length (problemA .terms) → (v t ≡ v u) ↔ EqualCells (stateA .table) t u)
 a-model = told-apart (sound-shaped problemA a-sound) a-complete
 
 -- and every reading that meets it makes twice f(-1/8 x) equal to 3, since twice that row less 3 is zero in every column.
 pub a-balanced : (met : Met problemA) → weightedNumber twice (negsuc 2) (met .reading) ≡ pos 0
 unfolding problemA
-a-balanced = balanced-exactly byNumber problemA by-number-one-to-one a-sound stateA a-finished twice (negsuc 2) .1 (λ c below. zeros-below 65 _ a-zero c (omega arith))
+a-balanced = balanced-exactly highestNumber problemA highest-number-strict a-sound stateA a-finished twice (negsuc 2) .1 (λ c below. zeros-below 65 _ a-zero c (omega arith))

@@ -1,17 +1,11 @@
--- Cases A, B, C, D, H, I and L of document 01 as problems, and the bytes that hold them.
--- Main definitions: `bytesOf`, `problemA`, `problemB`, `problemC`, `problemD`, `problemH`, `problemI`, `problemL`. Assumes nothing.
+-- Cases A, B, C, D, H, I and J of document 01 as problems.
+-- Main definitions: `problemA`, `problemB`, `problemC`, `problemD`, `problemH`, `problemI`, `problemJ2`. Assumes nothing.
 use mathlib.Core.List.{List, [], _∷_, map}
 use Prim.Native.Nat.{ℕ}
-use lib.ListN.{getD}
 use lib.IntN.{pos, negsuc}
 use Rattle.rules_problem.specs.declared.Kind.{Kind}
 use Rattle.rules_problem.specs.declared.Kind.the-variants.{Variable, Constant, Gain, Sum, Difference, Lookup1}
 use Rattle.rules_problem.specs.Problem.{Pair, Problem}
-use Rattle.cases_starred.specs.Table.{table}
-
--- the bytes of the case at place k of the table of starred cases, from 0
-unfoldable pub bytesOf : (k : ℕ) → List ℕ
-bytesOf k = getD (map (λ case. case .problem) table) k []
 
 abbrev pub pair : (left right : ℕ) → Pair
 pair left right = record { left = left; right = right }
@@ -85,6 +79,13 @@ problemH =
 unfoldable pub problemI : Problem
 problemI = problem (Variable 0 ∷ Lookup1 7 0 ∷ Lookup1 7 0 ∷ []) (pair 1 2) []
 
--- two variables, both with symbol 9; goal between them
-unfoldable pub problemL : Problem
-problemL = problem (Variable 9 ∷ Variable 9 ∷ []) (pair 0 1) []
+-- t, gain -1 shift 3 of it, gain 1 shift 3 of it; goal between the two gains
+unfoldable pub problemJ2 : Problem
+problemJ2 =
+    problem
+    (Variable 0
+    ∷ Gain (record { num = negsuc 0; den = pos 8 }) 0
+    ∷ Gain (record { num = pos 1; den = pos 8 }) 0
+    ∷ [])
+    (pair 1 2)
+    []

@@ -1,52 +1,46 @@
--- From the steps of the run to the outcome that the rules lay down.
--- Main results: `run-goes-on`, `run-ends`, `after-kept`, `decision-of`, `read-facts`, `sound-rows`, `sound-cleared`, `decided`. Assume nothing.
+-- From the run in code to the outcome that the rules lay down.
+-- Main results: `read-facts`, `then-runnable`, `then-finishable`, `decides-rows`, `decides-cleared`, `decided`, `decided-sound`, `decided-unread`,
+-- `decided-short-numerators`, `decided-short-denominators`. Assume nothing.
 use mathlib.Core.Path.{_≡_, refl, sym, ap, _∙_, subst, subst₂}
 use mathlib.Core.Logic.{inr}
-use mathlib.Core.Bool.{Bool, true, false, _&&_, cond}
+use mathlib.Core.Bool.{false}
 use mathlib.Core.List.{List}
 use Prim.Native.Nat.{ℕ, _*_, _≤_, _<_}
 use native.Mathlib.Omega.{arith}
 use borrow.Author.Tests.{lt-leb, le-leb}
 use lib.ListN.{length, getD}
-use lib.Dec.{leb}
 use lib.IntN.{ℤ, pos}
 use Rattle.answer.specs.declared.Answer.{Answer}
 use Rattle.answer.specs.declared.Answer.the-variants.{Refused}
 use Rattle.answer.specs.Refusals.{Refusal, SPACE}
-use Rattle.fraction.specs.Made.{Made, made, stopped, _>>=_}
-use Rattle.rules_problem.specs.Problem.{Problem, decoded}
-use Rattle.rules_run.specs.Row.{Table, cell, PLACES}
-use Rattle.rules_run.specs.Merge.{State}
-use Rattle.rules_run.specs.Run.{byNumber, begin, assume, run, judged}
+use Rattle.fraction.specs.Made.{Made, made, stopped}
 use Rattle.rules_problem.specs.Bits.{field}
-use Rattle.record_reader.specs.declared.Header.{Header}
-use Rattle.record_reader.specs.Reads.{headerOf, readAs, readOf}
+use Rattle.rules_problem.specs.Problem.{Problem, decoded}
 use Rattle.rules_problem.proofs.Holding.{holding, terms-count, pairs-count, goal-there}
-use Rattle.record_reader.proofs.Holding.{read-held}
+use Rattle.rules_run.specs.Row.{TERMS, COLUMNS, PLACES, cell}
+use Rattle.rules_run.specs.Merge.{State}
+use Rattle.rules_run.specs.Run.{highestNumber, run, judged}
+use Rattle.record_reader.specs.declared.Header.{Header}
 use Rattle.record_reader.specs.declared.Read.the-variants as read
-use Rattle.run_table.specs.Held.{tableAt}
+use Rattle.record_reader.specs.Held.{Held}
+use Rattle.record_reader.specs.Reads.{headerOf, readAs, readOf}
+use Rattle.record_reader.proofs.Holding.{read-held}
 use Rattle.run_table.specs.Loop.{Kept}
-use Rattle.run_progress.specs.Ran.{ran, AtMost, WhileGoing}
+use Rattle.run_table.specs.Work.{Work, tableOf}
 use Rattle.run_progress.specs.declared.Ran.{Ran}
 use Rattle.run_progress.specs.declared.Ran.the-variants.{Going, Ended}
-use Rattle.rules_outcome.specs.Outcome.{Outcome, Decision, unread, cutShort, finished, afterRun, afterReading, decision, answered, overwritten, laidOut, after, outcome}
+use Rattle.run_progress.specs.Ran.{ran}
+use Rattle.run_progress.proofs.Going.{going-holds}
+use Rattle.rules_outcome.specs.Outcome.{Lent, Long, isLong, Outcome, unread, finished, zeros, rows, afterRun, afterReading, decision, answered, overwritten, laidOut, after, outcome}
+use Rattle.rules_outcome.proofs.Decided.{outcome-short, outcome-long-enough}
 use Rattle.rules_outcome.proofs.Laid.{overwritten-length, overwritten-below, overwritten-beyond, overwritten-is}
-use Rattle.run_finish.specs.Leaves.{leaves}
 use Rattle.rules_demands.specs.Demands.{Truthful}
+use Rattle.laws_invariant.proofs.Granted.{highest-number-strict}
 use Rattle.laws_truth.proofs.Truthful.{outcome-truthful}
+use Rattle.run_finish.specs.Lent.{lentOf, comesBack}
+use Rattle.run_finish.specs.Contract.{Finishable, Finishes, Clears}
+use Rattle.decide.specs.Contract.{Runs, Readable, Decides}
 use Rattle.decide.specs.Decided.{Decided}
-
--- The run goes on from its beginning with the assumptions.
-pub run-goes-on : (problem : Problem) (r₀ r : Ran) (solved : ℕ) (table table′ : Table) → begin byNumber (problem .terms) ≡ ran r₀ table → r₀ ≡ Going solved → assume byNumber (problem .terms) 1 (problem .pairs) (record { table = table; solved = solved }) ≡ ran r table′ → run byNumber problem ≡ ran r table′
-unfolding run _>>=_ ran
-run-goes-on problem r₀ r solved table table′ begins going assumes =
-    ap (λ x. x >>= assume byNumber (problem .terms) 1 (problem .pairs)) (begins ∙ ap (λ x. ran x table) going) ∙ assumes
-
--- The run ends in its beginning.
-pub run-ends : (problem : Problem) (r₀ : Ran) (answer : Answer) (table : Table) → begin byNumber (problem .terms) ≡ ran r₀ table → r₀ ≡ Ended answer → run byNumber problem ≡ ran (Ended answer) table
-unfolding run _>>=_ ran
-run-ends problem r₀ answer table begins ended =
-    ap (λ x. x >>= assume byNumber (problem .terms) 1 (problem .pairs)) (begins ∙ ap (λ x. ran x table) ended)
 
 -- What is laid out does not depend on what the places held.
 laid-kept : (g : (t c : ℕ) → ℤ) (before now′ : List ℤ) → length now′ ≡ length before → ((p : ℕ) → PLACES ≤ p → getD now′ p (pos 0) ≡ getD before p (pos 0)) → laidOut g before ≡ laidOut g now′
@@ -57,7 +51,7 @@ laid-kept g before now′ same beyond =
     (λ p low long. overwritten-below PLACES _ now′ p low (subst (λ l. p < l) (overwritten-length PLACES _ now′) long))
     (λ p far. overwritten-beyond PLACES _ now′ p far ∙ beyond p far)
 
-module _ (n : ℕ) (few : n ≤ 64) (nums dens nums′ dens′ : List ℤ) (kept : Kept 0 (65 * n) nums dens nums′ dens′) where
+module _ {n : ℕ} (few : n ≤ TERMS) {nums dens nums′ dens′ : List ℤ} (kept : Kept 0 (COLUMNS * n) nums dens nums′ dens′) where
   kept-nums : (p : ℕ) → PLACES ≤ p → getD nums′ p (pos 0) ≡ getD nums p (pos 0)
   kept-nums p far = ap (λ f. f .num) (kept .outside p (inr (omega arith)))
 
@@ -65,72 +59,22 @@ module _ (n : ℕ) (few : n ≤ 64) (nums dens nums′ dens′ : List ℤ) (kept
   kept-dens p far = ap (λ f. f .den) (kept .outside p (inr (omega arith)))
 
   -- The outcome of a run is the same from the lists lent as from the lists that it has worked on.
-  pub after-kept : (problem : Problem) (ended : Made Answer State) → after (afterRun problem ended) nums dens ≡ after (afterRun problem ended) nums′ dens′
-  unfolding after afterRun
-  after-kept problem (made state) =
-      λ i. record {
-        answer = judged (problem .goal) state;
-        numerators = laid-kept (λ t c. cell (state .table) t c .num) nums nums′ (kept .nums-length) kept-nums i;
-        denominators = laid-kept (λ t c. pos (cell (state .table) t c .den)) dens dens′ (kept .dens-length) kept-dens i;
-      }
-  after-kept problem (stopped answer) =
-      λ i. record {
-        answer = answer;
-        numerators = laid-kept (λ t c. pos 0) nums nums′ (kept .nums-length) kept-nums i;
-        denominators = laid-kept (λ t c. pos 0) dens dens′ (kept .dens-length) kept-dens i;
-      }
-
--- The decision of a byte string that holds a problem is that of its run.
-pub decision-of : (bytes : List ℕ) (problem : Problem) → decoded bytes ≡ made problem → decision byNumber bytes ≡ afterRun problem (run byNumber problem)
-unfolding decision afterReading
-decision-of bytes problem held = ap (afterReading byNumber) held
-
--- A byte string that is read as refused is left unread.
-pub decision-refused : (bytes : List ℕ) (number place : ℕ) → readOf bytes ≡ read.Refused number place → decision byNumber bytes ≡ unread (record { number = number; place = place })
-unfolding decision afterReading readOf readAs
-decision-refused bytes number place = go (decoded bytes) refl
-  where
-    go : (d : Made Refusal Problem) → decoded bytes ≡ d → readAs d ≡ read.Refused number place → afterReading byNumber (decoded bytes) ≡ unread (record { number = number; place = place })
-    go (made problem) e h = let z : _≡_ {A = ℕ} 0 1 = cc in absurd (omega arith)
-    go (stopped why) e h =
-        ap (afterReading byNumber) e
-        ∙ (λ i. unread (record { number = same-number why h i; place = same-place why h i }))
-      where
-        same-number : (why : Refusal) → readAs (stopped why) ≡ read.Refused number place → why .number ≡ number
-        same-number why h = cc
-
-        same-place : (why : Refusal) → readAs (stopped why) ≡ read.Refused number place → why .place ≡ place
-        same-place why h = cc
-
-module _ (bytes : List ℕ) (nums dens : List ℤ) where
-  -- Long enough lists: the outcome is that of the decision.
-  pub outcome-long : PLACES ≤ length nums → PLACES ≤ length dens → outcome byNumber bytes nums dens ≡ after (decision byNumber bytes) nums dens
-  unfolding outcome
-  outcome-long long long′ = rw (le-leb PLACES (length nums) long, le-leb PLACES (length dens) long′)
-
-  -- A list that is too short is refused with SPACE, and both stay as they are.
-  pub space-nums : length nums < PLACES → outcome byNumber bytes nums dens ≡ leaves (Refused SPACE 0) nums dens
-  unfolding outcome after answered
-  space-nums short = rw (lt-leb PLACES (length nums) short)
-
-  pub space-dens : PLACES ≤ length nums → length dens < PLACES → outcome byNumber bytes nums dens ≡ leaves (Refused SPACE 0) nums dens
-  unfolding outcome after answered
-  space-dens long short = rw (le-leb PLACES (length nums) long, lt-leb PLACES (length dens) short)
-
-  -- A refused record leaves both lists as they are.
-  pub unread-left : (number place : ℕ) → PLACES ≤ length nums → PLACES ≤ length dens → readOf bytes ≡ read.Refused number place → outcome byNumber bytes nums dens ≡ leaves (Refused number place) nums dens
-  unfolding after answered
-  unread-left number place long long′ told =
-      outcome-long long long′ ∙ ap (λ d. after d nums dens) (decision-refused bytes number place told)
-
--- What is said of a run that goes on, and of one that has ended.
-pub going-most : {most : ℕ} {r : Ran} {solved : ℕ} → r ≡ Going solved → AtMost most r → solved ≤ most
-unfolding AtMost
-going-most {most} same h = subst (AtMost most) same h
-
-pub ended-holds : (holds : Type 0) (answer : Answer) → WhileGoing holds (Ended answer)
-unfolding WhileGoing
-ended-holds holds answer = tt
+  after-kept : (problem : Problem) (ended : Made Answer State) → after (afterRun problem ended) (lentOf nums dens) ≡ after (afterRun problem ended) (lentOf nums′ dens′)
+  unfolding after afterRun zeros rows
+  after-kept problem (made state) = λ i. record {
+    answer = judged (problem .goal) state;
+    left = record {
+      numerators = laid-kept (λ t c. cell (state .table) t c .num) nums nums′ (kept .nums-length) kept-nums i;
+      denominators = laid-kept (λ t c. pos (cell (state .table) t c .den)) dens dens′ (kept .dens-length) kept-dens i;
+    };
+  }
+  after-kept problem (stopped answer) = λ i. record {
+    answer = answer;
+    left = record {
+      numerators = laid-kept (λ t c. pos 0) nums nums′ (kept .nums-length) kept-nums i;
+      denominators = laid-kept (λ t c. pos 0) dens dens′ (kept .dens-length) kept-dens i;
+    };
+  }
 
 -- What is known of a problem once its header was answered.
 pub record Facts (bytes : List ℕ) (header : Header) : Type 0 where
@@ -138,14 +82,14 @@ pub record Facts (bytes : List ℕ) (header : Header) : Type 0 where
   pub held : decoded bytes ≡ made problem
   pub terms : header .n ≡ field bytes 0 8
   pub pairs : header .m ≡ field bytes 8 8
-  pub few : header .n ≤ 64
+  pub few : header .n ≤ TERMS
   pub left-below : header .left < header .n
   pub right-below : header .right < header .n
   pub goal : problem .goal ≡ record { left = header .left; right = header .right }
 
-pub read-facts : (bytes : List ℕ) (header : Header) → readOf bytes ≡ read.Sound header → Facts bytes header
+pub read-facts : {bytes : List ℕ} {header : Header} → readOf bytes ≡ read.Sound header → Facts bytes header
 unfolding headerOf
-read-facts bytes header h =
+read-facts {bytes} {header} h =
     let (problem, held, same) = read-held bytes header h in
     let count = terms-count bytes problem held in
     let sides = goal-there bytes problem held in
@@ -159,39 +103,95 @@ read-facts bytes header h =
       held = held;
       terms = n-same ∙ count;
       pairs = m-same ∙ pairs-count bytes problem held;
-      few = subst (λ x. x ≤ 64) (sym (n-same ∙ count)) (limits .few-terms);
+      few = subst (λ x. x ≤ TERMS) (sym (n-same ∙ count)) (limits .few-terms);
       left-below = subst₂ (λ x y. x < y) (sym left-same) (sym (n-same ∙ count)) (sides .left-below);
       right-below = subst₂ (λ x y. x < y) (sym right-same) (sym (n-same ∙ count)) (sides .right-below);
       goal = sym (λ i. record { left = left-same i; right = right-same i });
     }
 
-module _ (bytes : List ℕ) (header : Header) (facts : Facts bytes header) (nums dens nums₁ dens₁ nums₂ dens₂ : List ℤ) (r : Ran) (answer : Answer) where
-  table₁ : Table
-  table₁ = tableAt (header .n) nums₁ dens₁
+pub facts-held : {bytes : List ℕ} {header : Header} → Facts bytes header → Held bytes
+facts-held facts = record { problem = facts .problem; same = facts .held }
 
-  -- A run that went through leaves its rows.
-  pub sound-rows : (solved : ℕ) → run byNumber (facts .problem) ≡ ran r (tableAt (header .n) nums₁ dens₁) → r ≡ Going solved → Kept 0 (65 * header .n) nums dens nums₁ dens₁ → after (finished (judged (record { left = header .left; right = header .right }) (record { table = tableAt (header .n) nums₁ dens₁; solved = solved })) (tableAt (header .n) nums₁ dens₁)) nums₁ dens₁ ≡ leaves answer nums₂ dens₂ → after (decision byNumber bytes) nums dens ≡ leaves answer nums₂ dens₂
-  unfolding afterRun ran table₁
-  sound-rows solved runs going kept rows =
-      ap (λ d. after d nums dens) (decision-of bytes (facts .problem) (facts .held))
-      ∙ after-kept (header .n) (facts .few) nums dens nums₁ dens₁ kept (facts .problem) (run byNumber (facts .problem))
-      ∙ ap (λ x. after (afterRun (facts .problem) x) nums₁ dens₁) (runs ∙ ap (λ x. ran x table₁) going)
-      ∙ ap (λ goal. after (finished (judged goal (record { table = table₁; solved = solved })) table₁) nums₁ dens₁) (facts .goal)
-      ∙ rows
+module _ {bytes : List ℕ} {header : Header} {lent : Lent} {old new : Work} {r : Ran} (ready : Readable bytes header lent) (runs : Runs bytes (header .n) r old new) where
+  facts : Facts bytes header
+  facts = read-facts (ready .sound)
 
-  -- A run that stopped leaves zeros.
-  pub sound-cleared : (stop : Answer) → run byNumber (facts .problem) ≡ ran r (tableAt (header .n) nums₁ dens₁) → r ≡ Ended stop → Kept 0 (65 * header .n) nums dens nums₁ dens₁ → after (cutShort stop) nums₁ dens₁ ≡ leaves answer nums₂ dens₂ → after (decision byNumber bytes) nums dens ≡ leaves answer nums₂ dens₂
-  unfolding afterRun ran table₁
-  sound-cleared stop runs ended kept zeros =
-      ap (λ d. after d nums dens) (decision-of bytes (facts .problem) (facts .held))
-      ∙ after-kept (header .n) (facts .few) nums dens nums₁ dens₁ kept (facts .problem) (run byNumber (facts .problem))
-      ∙ ap (λ x. after (afterRun (facts .problem) x) nums₁ dens₁) (runs ∙ ap (λ x. ran x table₁) ended)
-      ∙ zeros
+  -- A run that went through has a table to finish with.
+  pub then-finishable : {solved : ℕ} → r ≡ Going solved → Finishable (header .n) (header .left) (header .right) new
+  then-finishable going = let known = read-facts (ready .sound) in record { rows = going-holds going (runs .rows); left-below = known .left-below; right-below = known .right-below }
+
+  -- The decision of a byte string that holds a problem is that of its run.
+  decision-run : after (decision highestNumber bytes) (lentOf (old .nums) (old .dens)) ≡ after (afterRun (facts .problem) (ran r (tableOf (header .n) new))) (lentOf (new .nums) (new .dens))
+  unfolding facts decision afterReading
+  decision-run =
+      let known = read-facts (ready .sound) in
+      ap (λ d. after (afterReading highestNumber d) (lentOf (old .nums) (old .dens))) (known .held)
+      ∙ after-kept (known .few) (runs .kept) (known .problem) (run highestNumber (known .problem))
+      ∙ ap (λ x. after (afterRun (known .problem) x) (lentOf (new .nums) (new .dens))) (runs .answers (known .problem) (known .held))
+
+  -- A run that went through leaves its rows, and one that stopped zeros.
+  pub decides-rows : {solved : ℕ} {answer : Answer} {left : Lent} → r ≡ Going solved → Finishes (header .n) (header .left) (header .right) solved answer new left → Decides bytes answer (lentOf (old .nums) (old .dens)) left
+  unfolding afterRun ran
+  decides-rows {solved} going finishes =
+      let lists = lentOf (new .nums) (new .dens) in
+      let table = tableOf (header .n) new in
+      record {
+        outcome =
+            decision-run
+            ∙ ap (λ x. after (afterRun (facts .problem) (ran x table)) lists) going
+            ∙ ap (λ goal. after (finished (judged goal (record { table = table; solved = solved })) table) lists) (facts .goal)
+            ∙ finishes .outcome;
+      }
+
+  pub decides-cleared : {stop answer : Answer} {left : Lent} → r ≡ Ended stop → Clears stop answer (lentOf (new .nums) (new .dens)) left → Decides bytes answer (lentOf (old .nums) (old .dens)) left
+  unfolding afterRun ran
+  decides-cleared ended clears =
+      record { outcome = decision-run ∙ ap (λ x. after (afterRun (facts .problem) (ran x (tableOf (header .n) new))) (lentOf (new .nums) (new .dens))) ended ∙ clears .outcome }
 
 -- What the rules lay down is true (demand 2), so whoever leaves just that has decided.
-pub decided : (bytes : List ℕ) (nums dens : List ℤ) (o : Outcome) → outcome byNumber bytes nums dens ≡ o → Decided bytes nums dens o
-decided bytes nums dens o same =
+pub decided : {bytes : List ℕ} {lent : Lent} {o : Outcome} → outcome highestNumber bytes lent ≡ o → Decided bytes lent o
+decided {bytes} {lent} same =
     record {
       rules = same;
-      truth = λ problem long long′ held. subst (Truthful problem) same (outcome-truthful bytes nums dens problem long long′ held);
+      truth = λ problem long held. subst (Truthful highestNumber problem) same (outcome-truthful highestNumber highest-number-strict bytes lent problem long held);
     }
+
+-- A problem that was read: the decision.
+pub decided-sound : {bytes : List ℕ} {lent left : Lent} {r : Answer} → Long lent → Decides bytes r lent left → Decided bytes lent (comesBack r left)
+decided-sound {bytes} {lent} long decides = decided (outcome-long-enough highestNumber bytes lent long ∙ decides .outcome)
+
+-- A byte string that is read as refused is left unread.
+decision-refused : (bytes : List ℕ) (number place : ℕ) → readOf bytes ≡ read.Refused number place → decision highestNumber bytes ≡ unread (record { number = number; place = place })
+unfolding decision afterReading readOf readAs
+decision-refused bytes number place = go (decoded bytes) refl
+  where
+    go : (d : Made Refusal Problem) → decoded bytes ≡ d → readAs d ≡ read.Refused number place → afterReading highestNumber (decoded bytes) ≡ unread (record { number = number; place = place })
+    go (made problem) e h = let z : _≡_ {A = ℕ} 0 1 = cc in absurd (omega arith)
+    go (stopped why) e h =
+        ap (afterReading highestNumber) e
+        ∙ (λ i. unread (record { number = same-number why h i; place = same-place why h i }))
+      where
+        same-number : (why : Refusal) → readAs (stopped why) ≡ read.Refused number place → why .number ≡ number
+        same-number why h = cc
+
+        same-place : (why : Refusal) → readAs (stopped why) ≡ read.Refused number place → why .place ≡ place
+        same-place why h = cc
+
+-- It is refused, and the lists stay.
+pub decided-unread : {bytes : List ℕ} {lent : Lent} {number place : ℕ} → Long lent → readOf bytes ≡ read.Refused number place → Decided bytes lent (comesBack (Refused number place) lent)
+unfolding after answered
+decided-unread {bytes} {lent} {number} {place} long refuses =
+    decided (outcome-long-enough highestNumber bytes lent long ∙ ap (λ d. after d lent) (decision-refused bytes number place refuses))
+
+-- A list that is too short is refused with SPACE, and both stay as they are.
+decided-short : {bytes : List ℕ} {lent : Lent} → isLong lent ≡ false → Decided bytes lent (comesBack (Refused SPACE 0) lent)
+unfolding after answered
+decided-short {bytes} {lent} short = decided (outcome-short highestNumber bytes lent short)
+
+pub decided-short-numerators : {bytes : List ℕ} {nums dens : List ℤ} → length nums < PLACES → Decided bytes (lentOf nums dens) (comesBack (Refused SPACE 0) (lentOf nums dens))
+unfolding isLong
+decided-short-numerators {nums = nums} short = decided-short (rw (lt-leb PLACES (length nums) short))
+
+pub decided-short-denominators : {bytes : List ℕ} {nums dens : List ℤ} → PLACES ≤ length nums → length dens < PLACES → Decided bytes (lentOf nums dens) (comesBack (Refused SPACE 0) (lentOf nums dens))
+unfolding isLong
+decided-short-denominators {nums = nums} {dens = dens} long short = decided-short (rw (le-leb PLACES (length nums) long, lt-leb PLACES (length dens) short))

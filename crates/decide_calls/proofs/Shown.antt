@@ -3,23 +3,21 @@
 use mathlib.Core.Path.{_≡_, refl, sym, ap, _∙_}
 use mathlib.Core.Logic.{_≢_, inl, inr}
 use mathlib.Core.List.{List, _∷_, _++_}
-use Prim.Native.Nat.{ℕ, zero, suc, _≤_, _<_}
+use Prim.Native.Nat.{ℕ, zero, suc, _<_}
 use native.Mathlib.Omega.{arith}
-use lib.ListN.{length, List·getD-append}
-use lib.IntN.{ℤ}
+use lib.ListN.{List·getD-append}
 use Rattle.answer.specs.Said.{entailed, Said}
 use Rattle.fraction.specs.Made.{made}
 use Rattle.rules_problem.specs.Bits.{bitAt, field}
 use Rattle.rules_problem.specs.Problem.{Problem, decoded}
-use Rattle.rules_run.specs.Run.{byNumber}
-use Rattle.rules_run.specs.Row.{PLACES}
-use Rattle.rules_outcome.specs.Outcome.{outcome}
+use Rattle.rules_run.specs.Run.{highestNumber}
+use Rattle.rules_outcome.specs.Computed.{computedAnswer}
+use Rattle.rules_outcome.specs.Outcome.{Lent, Long, outcome}
 use Rattle.laws_order.specs.SameBytes.{byteAt, termCount, pairCount, leftByte, rightByte, SamePair, PairsIn, SameBytes}
 use Rattle.laws_order.proofs.Shown.{not-refused}
-use Rattle.cases_starred.specs.Computed.{computedAnswer}
 use Rattle.cases_starred.specs.Table.{bytes}
 use Rattle.decide.proofs.Whole.{decided}
-use Rattle.decide_calls.specs.Agreed.{Call, Agreed}
+use Rattle.decide_calls.specs.Agreed.{Deciding, Agreed}
 use Rattle.decide_calls.proofs.Calls.{calls-agree}
 
 -- the goal f(x)=x, and x, f(x) to f⁵(x)
@@ -59,15 +57,9 @@ c-turned = record { before = before; there = there; back = back }
 pub entailedBy : (count : ℕ) → Said
 entailedBy count = record { word = entailed; place = 0; count = count }
 
--- A call on a string with lists that are long enough, as the rules lay it down.
-call : (bytes : List ℕ) (numerators denominators : List ℤ) → Call
-call bytes numerators denominators = record {
-  bytes = bytes;
-  numerators = numerators;
-  denominators = denominators;
-  back = outcome byNumber bytes numerators denominators;
-  promised = decided bytes numerators denominators _ refl;
-}
+-- A call on a string, as the rules lay it down.
+call : (bytes : List ℕ) → Lent → Deciding
+call bytes lent = record { bytes = bytes; lent = lent; back = outcome highestNumber bytes lent; promised = decided refl }
 
 -- Both are entailed, with 5 solved,
 pub c-computed : (computedAnswer inFileOrder ≡ entailedBy 5) × (computedAnswer turned ≡ entailedBy 5)
@@ -75,9 +67,9 @@ unfolding computedAnswer entailedBy terms inFileOrder turned bytes
 c-computed = (refl, refl)
 
 -- so two calls on them agree, in lists of any length that is enough.
-pub c-agreed : (numerators denominators numerators′ denominators′ : List ℤ) → PLACES ≤ length numerators → PLACES ≤ length denominators → PLACES ≤ length numerators′ → PLACES ≤ length denominators′ → (p : Problem) × (q : Problem) × (decoded inFileOrder ≡ made p) × (decoded turned ≡ made q) × Agreed p q (outcome byNumber inFileOrder numerators denominators) (outcome byNumber turned numerators′ denominators′)
-unfolding call computedAnswer entailedBy
-c-agreed numerators denominators numerators′ denominators′ first second first′ second′ =
-    calls-agree .of-bytes (call inFileOrder numerators denominators) (call turned numerators′ denominators′) c-turned
-    (not-refused inFileOrder numerators denominators first second (ap (λ s. s .word) (c-computed .0)))
-    (not-refused turned numerators′ denominators′ first′ second′ (ap (λ s. s .word) (c-computed .1)))
+pub c-agreed : (lent lent′ : Lent) → Long lent → Long lent′ → (p : Problem) × (q : Problem) × (decoded inFileOrder ≡ made p) × (decoded turned ≡ made q) × Agreed p q (outcome highestNumber inFileOrder lent) (outcome highestNumber turned lent′)
+unfolding call entailedBy
+c-agreed lent lent′ long long′ =
+    calls-agree .of-bytes (call inFileOrder lent) (call turned lent′) c-turned
+    (not-refused inFileOrder lent long (ap (λ s. s .word) (c-computed .0)))
+    (not-refused turned lent′ long′ (ap (λ s. s .word) (c-computed .1)))

@@ -4,7 +4,7 @@ use mathlib.Core.Path.{_≡_, sym, ap, _∙_}
 use mathlib.Core.List.{List}
 use Prim.Native.Nat.{ℕ}
 use lib.IntN.{ℤ}
-use Rattle.decide.proofs.Unique.{decide-unique}
+use Rattle.decide.proofs.Unique.{decided-one}
 use Rattle.list_lines.proofs.Unique.{list-row-at-unique}
 use Rattle.answer_numbers.specs.declared.Told.{Told}
 use Rattle.answer_numbers.specs.Told.{told}
@@ -13,7 +13,7 @@ use Rattle.export.specs.Handed.{placeOf, numberOf, Handed, Listed}
 -- Two answers in numbers, with the lists that they leave, for one byte string and the same lent lists.
 pub hamzulaph-decide-unique : (bytes : List ℕ) (nums dens nums′ dens′ nums″ dens″ : List ℤ) (r s : Told) → Handed bytes nums dens nums′ dens′ r → Handed bytes nums dens nums″ dens″ s → (r ≡ s) × (nums′ ≡ nums″) × (dens′ ≡ dens″)
 hamzulaph-decide-unique bytes nums dens nums′ dens′ nums″ dens″ r s p q =
-    let one = decide-unique bytes nums dens _ _ nums′ dens′ nums″ dens″ (p .decided) (q .decided) in
+    let one = decided-one (p .decided) (q .decided) in
     (sym (p .tells) ∙ ap told (one .0) ∙ q .tells, one .1, one .2)
 
 -- Two places with their numbers, and the buffers that they leave, for one row of the same lists and one buffer.

@@ -5,7 +5,7 @@ use mathlib.Core.List.{List}
 use Prim.Native.Nat.{ℕ}
 use lib.IntN.{ℤ}
 use Rattle.answer.specs.declared.Answer.{Answer}
-use Rattle.run_finish.specs.Leaves.{leaves}
+use Rattle.run_finish.specs.Lent.{lentOf, comesBack}
 use Rattle.decide.specs.Decided.{Decided}
 use Rattle.rules_listing.specs.Listing.{listRow}
 use Rattle.list_lines.specs.Leaves as lines
@@ -18,7 +18,7 @@ use Rattle.answer_numbers.specs.Told.{told}
 pub record Handed (bytes : List ℕ) (nums dens nums′ dens′ : List ℤ) (t : Told) : Type 0 where
   pub answer : Answer
   pub tells : told answer ≡ t
-  pub decided : Decided bytes nums dens (leaves answer nums′ dens′)
+  pub decided : Decided bytes (lentOf nums dens) (comesBack answer (lentOf nums′ dens′))
 
 -- The place after listing, and 0 or the number of its refusal.
 unfoldable pub placeOf : Reached → ℕ

@@ -1,5 +1,6 @@
 -- The operations of the run: made exactly, in lowest terms, and tested against the limits.
--- Main definitions: `within`, `tested`, `plus`, `minus`, `times`, `over`. Assumes nothing.
+-- Main definitions: `within`, `tested`, `Outside`, `plus`, `minus`, `times`, `over`. Assumes nothing.
+use mathlib.Core.Path.{_≡_}
 use mathlib.Core.Bool.{Bool, _&&_, cond}
 use Prim.Native.Nat.{ℕ}
 use lib.IntN.{natAbs}
@@ -18,6 +19,10 @@ within q = leb (natAbs (q .num)) limit && leb (q .den) limit
 -- "Each single product, quotient, sum and difference is tested in lowest terms as it is made."
 unfoldable pub tested : ℚ → Made ℕ ℚ
 tested q = cond (within q) (made q) (stopped RANGE)
+
+-- "The first step with a number outside the limits ends the run with refusal 7": the numbers of refusal that say so
+unfoldable pub Outside : (number : ℕ) → Type 0
+Outside number = number ≡ RANGE
 
 unfoldable pub plus : ℚ → ℚ → Made ℕ ℚ
 plus a b = tested (a +ℚ b)

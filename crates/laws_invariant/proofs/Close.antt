@@ -19,7 +19,7 @@ use Rattle.laws_valuation.proofs.Readings.{lookup-inputs}
 use Rattle.rules_run.specs.Row.{TERMS, cell}
 use Rattle.rules_run.specs.Merge.{State, contradiction, merge}
 use Rattle.rules_run.specs.Close.{due, closeFor, close}
-use Rattle.laws_invariant.specs.Rows.{EqualRows}
+use Rattle.laws_invariant.specs.Rows.{EqualCells}
 use Rattle.laws_invariant.specs.Invariant.{Shaped, OneToOne, Equates, NoneMeets, isUnknown, isSolved, count, Invariant, Completed, Stopped}
 use Rattle.laws_invariant.proofs.Count.{count-at-most, count-below}
 use Rattle.laws_invariant.proofs.Due.{Due, due-some, due-none}
@@ -29,7 +29,7 @@ use Rattle.laws_invariant.proofs.Units.{column-below}
 
 module _ {rank : ℕ → ℕ} {terms : List Term} {inForce met : List Pair} {state : State} (inv : Invariant rank terms inForce met state) where
   -- Equal rows are forced equal.
-  pub equal-rows-forced : (t u : ℕ) → t < length terms → u < length terms → EqualRows (state .table) t u → Equates terms inForce t u
+  pub equal-rows-forced : (t u : ℕ) → t < length terms → u < length terms → EqualCells (state .table) t u → Equates terms inForce t u
   unfolding Equates
   equal-rows-forced t u t-below u-below same v valued meets =
       let sound = inv .sound v valued meets in
@@ -62,8 +62,8 @@ module _ (rank : ℕ → ℕ) (terms : List Term) (inForce met : List Pair) (one
       let merged = merge-answers rank terms inForce met state i j one-to-one (shaped .fits) (omega (arith, pair .before, pair .below)) (pair .below) (due-forced inv shaped i j pair) inv in
       answers-then merged (λ after done. (done .invariant, by after (done .meets) (done .grows)))
     where
-      by : (after : State) → EqualRows (after .table) i j → (after ≡ state) ⊎ (after .solved ≡ suc (state .solved)) → after .solved ≡ suc (state .solved)
-      by after meets (inl same) = absurd (pair .unequal (subst (λ s. EqualRows (s .table) i j) same meets))
+      by : (after : State) → EqualCells (after .table) i j → (after ≡ state) ⊎ (after .solved ≡ suc (state .solved)) → after .solved ≡ suc (state .solved)
+      by after meets (inl same) = absurd (pair .unequal (subst (λ s. EqualCells (s .table) i j) same meets))
       by after meets (inr grown) = grown
 
   -- With turns to spare, closing ends where nothing is due.

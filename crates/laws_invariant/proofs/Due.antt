@@ -15,7 +15,7 @@ use Rattle.rules_problem.specs.Lookup.{alike, inputsOf, kindAt}
 use Rattle.rules_problem.specs.Problem.{Pair}
 use Rattle.rules_run.specs.Row.{Table, sameRow}
 use Rattle.rules_run.specs.Close.{sameRows, isDue, first, due}
-use Rattle.laws_invariant.specs.Rows.{EqualRows, EqualPlaces, Closed}
+use Rattle.laws_invariant.specs.Rows.{EqualCells, EqualPlaces, ClosedTable}
 use Rattle.laws_invariant.proofs.Rows.{sameRow-equal, sameRows-equal}
 
 -- Where nothing is found, there is nothing at any of the numbers.
@@ -45,7 +45,7 @@ pub record Due (terms : List Term) (table : Table) (i j : ℕ) : Type 0 where
   pub below : j < length terms
   pub similar : T (alike (kindAt terms i) (kindAt terms j))
   pub inputs : EqualPlaces table (inputsOf (kindAt terms i)) (inputsOf (kindAt terms j))
-  pub unequal : EqualRows table i j → ⊥
+  pub unequal : EqualCells table i j → ⊥
 
 pub T-true : (b : Bool) → T b → b ≡ true
 T-true true h = refl
@@ -95,11 +95,11 @@ module _ (terms : List Term) (table : Table) where
       by false nothing = refl
 
   -- Then the table is closed.
-  pub due-none : due terms table ≡ none → Closed terms table
-  unfolding isDue Closed
+  pub due-none : due terms table ≡ none → ClosedTable terms table
+  unfolding isDue ClosedTable
   due-none h i j before below similar inputs = by (sameRow table i j) refl
     where
-      by : (b : Bool) → sameRow table i j ≡ b → EqualRows table i j
+      by : (b : Bool) → sameRow table i j ≡ b → EqualCells table i j
       by true same = sameRow-equal table i j .0 same
       by false other =
           let no = rw (T-true (alike (kindAt terms i) (kindAt terms j)) similar, sameRows-equal table (inputsOf (kindAt terms i)) (inputsOf (kindAt terms j)) .1 inputs, other) at (none-due h i j before below) in

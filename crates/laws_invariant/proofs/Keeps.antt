@@ -12,14 +12,14 @@ use Rattle.laws_linear.specs.Form.{Form, foldForm}
 use Rattle.laws_linear.proofs.Fold.{fold-equal}
 use Rattle.rules_run.specs.Row.{Row, Table, TERMS, COLUMNS, constant, column, rowOf, cell, sameRow}
 use Rattle.rules_run.specs.Merge.{State, contradiction, outside, difference, pivot, folded, solve, settle, merge}
-use Rattle.laws_invariant.specs.Rows.{EqualRows, solvedForm}
+use Rattle.laws_invariant.specs.Rows.{EqualCells, solvedForm}
 use Rattle.laws_invariant.proofs.Pivot.{pivot-some}
 use Rattle.laws_invariant.proofs.Rows.{sameRow-equal}
 use Rattle.laws_invariant.proofs.Steps.{folded-made, solve-made}
 use Rattle.laws_invariant.proofs.Units.{column-below}
 
 -- Where every row is folded, rows that are equal stay equal.
-pub folds-equal : (p : ℕ) (form : Form) (table after : Table) → p < COLUMNS → ((t c : ℕ) → c < COLUMNS → cell after t c ≡ foldForm p form (cell table t) c) → (i j : ℕ) → EqualRows table i j → EqualRows after i j
+pub folds-equal : (p : ℕ) (form : Form) (table after : Table) → p < COLUMNS → ((t c : ℕ) → c < COLUMNS → cell after t c ≡ foldForm p form (cell table t) c) → (i j : ℕ) → EqualCells table i j → EqualCells after i j
 folds-equal p form table after inside folds i j same c below =
     folds i c below ∙ fold-equal p c form form (cell table i) (cell table j) refl (same p inside) (same c below) ∙ sym (folds j c below)
 

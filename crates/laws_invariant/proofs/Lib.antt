@@ -4,6 +4,7 @@ pub mod Count
 pub mod Due
 pub mod Granted
 pub mod Keeps
+pub mod Limits
 pub mod Lin
 pub mod Meets
 pub mod Merge

@@ -14,7 +14,7 @@ use Rattle.laws_linear.specs.Form.{foldForm}
 use Rattle.laws_linear.proofs.Fold.{fold-equal, fold-minus}
 use Rattle.rules_run.specs.Row.{Row, Table, TERMS, COLUMNS, constant, column, rowOf, cell, sameRow}
 use Rattle.rules_run.specs.Merge.{State, contradiction, outside, difference, pivot, solve, settle, merge}
-use Rattle.laws_invariant.specs.Rows.{EqualRows, solvedForm}
+use Rattle.laws_invariant.specs.Rows.{EqualCells, solvedForm}
 use Rattle.laws_invariant.proofs.Pivot.{Pivot, last-or-before, pivot-some, pivot-none}
 use Rattle.laws_invariant.proofs.Rows.{sameRow-equal}
 use Rattle.laws_invariant.proofs.SolvedForm.{solved-cancels}
@@ -30,7 +30,7 @@ unfolding cell
 rows-differ {table} {t} {u} {d} h = record { each = difference-made (rowOf table t) (rowOf table u) d h }
 
 -- An unknown is solved: the difference cancels.
-pub solve-meets : {rank : ℕ → ℕ} {state after : State} {t u p : ℕ} {d : Row} → Differs (state .table) t u d → Pivot rank TERMS d p → Solves p d state after → EqualRows (after .table) t u
+pub solve-meets : {rank : ℕ → ℕ} {state after : State} {t u p : ℕ} {d : Row} → Differs (state .table) t u d → Pivot rank TERMS d p → Solves p d state after → EqualCells (after .table) t u
 solve-meets {state = state} {t = t} {u} {p} {d} differs chosen solves c inside =
     let form = solvedForm p (column d) in
     let p-column : p < COLUMNS = column-below (omega (arith, chosen .below)) in
@@ -39,19 +39,19 @@ solve-meets {state = state} {t = t} {u} {p} {d} differs chosen solves c inside =
     difference-zero _ _ (ap₂ _-ℚ_ (solves .folds t c inside) (solves .folds u c inside) ∙ sym (fold-minus p form _ _ c) ∙ cancels)
 
 -- Nothing is to be solved: the rows differ in the constant at most, and not there.
-pub constant-only : (rank : ℕ → ℕ) {table : Table} {t u : ℕ} (d : Row) → Differs table t u d → pivot rank TERMS d ≡ none → column d constant ≡ zeroℚ → EqualRows table t u
+pub constant-only : (rank : ℕ → ℕ) {table : Table} {t u : ℕ} (d : Row) → Differs table t u d → pivot rank TERMS d ≡ none → column d constant ≡ zeroℚ → EqualCells table t u
 constant-only rank d differs empty zero c inside =
     difference-zero _ _ (sym (differs .each c inside) ∙ last-or-before TERMS zero (pivot-none rank d TERMS empty) c inside)
 
 module _ (rank : ℕ → ℕ) (state after : State) (t u : ℕ) where
-  settle-meets : (d : Row) → Differs (state .table) t u d → (o : Option ℕ) → pivot rank TERMS d ≡ o → settle d state o ≡ made after → EqualRows (after .table) t u
+  settle-meets : (d : Row) → Differs (state .table) t u d → (o : Option ℕ) → pivot rank TERMS d ≡ o → settle d state o ≡ made after → EqualCells (after .table) t u
   unfolding settle
   settle-meets d differs (some p) found h =
       solve-meets differs (pivot-some rank d TERMS p found) (solve-made p d state after (because-made outside (solve p d state) after h))
   settle-meets d differs none empty h = by (eqℚ (column d constant) zeroℚ) refl h
     where
-      by : (b : Bool) → eqℚ (column d constant) zeroℚ ≡ b → cond b (made state) (stopped contradiction) ≡ made after → EqualRows (after .table) t u
-      by true zero is = let stays : state ≡ after = cc in subst (λ s. EqualRows (s .table) t u) stays (constant-only rank d differs empty (eqℚ-yes _ _ zero))
+      by : (b : Bool) → eqℚ (column d constant) zeroℚ ≡ b → cond b (made state) (stopped contradiction) ≡ made after → EqualCells (after .table) t u
+      by true zero is = let stays : state ≡ after = cc in subst (λ s. EqualCells (s .table) t u) stays (constant-only rank d differs empty (eqℚ-yes _ _ zero))
       by false other stops = absurd (stopped-not-made stops)
 
   -- A merge that is made leaves the rows of both terms equal.

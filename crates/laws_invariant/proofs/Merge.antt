@@ -11,14 +11,13 @@ use Rattle.fraction.specs.Exact.{ℚ, zeroℚ, eqℚ}
 use Rattle.fraction.specs.Made.{made, stopped}
 use Rattle.fraction.proofs.Answers.{Answers, if-made, if-stopped, answers-made, answers-stopped, answers-with, answers-bind, answers-because}
 use Rattle.fraction.proofs.Equality.{eqℚ-yes, eqℚ-no}
-use Rattle.fraction.proofs.Field.{difference-zero}
 use Rattle.laws_linear.proofs.Eval.{eval-constant}
 use Rattle.rules_problem.specs.declared.Term.{Term}
 use Rattle.rules_problem.specs.Problem.{Pair}
-use Rattle.rules_run.specs.Row.{Row, TERMS, COLUMNS, constant, column, rowOf, cell}
+use Rattle.rules_run.specs.Row.{Row, TERMS, constant, column, cell}
 use Rattle.rules_run.specs.Merge.{State, contradiction, outside, pivot, solve, settle, merge}
-use Rattle.laws_invariant.specs.Rows.{EqualRows}
-use Rattle.laws_invariant.specs.Invariant.{OneToOne, Meets, Equates, NoneMeets, Invariant, Stopped}
+use Rattle.laws_invariant.specs.Rows.{EqualCells}
+use Rattle.laws_invariant.specs.Invariant.{OneToOne, ValuesMeet, Equates, NoneMeets, Invariant, Stopped}
 use Rattle.laws_invariant.proofs.Meets.{Differs, rows-differ, solve-meets, constant-only}
 use Rattle.laws_invariant.proofs.Pivot.{pivot-some, pivot-none}
 use Rattle.laws_invariant.proofs.Range.{difference-ranged, solve-ranged}
@@ -26,7 +25,7 @@ use Rattle.laws_invariant.proofs.Solve.{difference-value, solve-equal, 
 use Rattle.laws_invariant.proofs.Steps.{solve-made}
 
 -- The invariant holds with more assumptions in force, and for any met that have equal rows.
-pub restated : {rank : ℕ → ℕ} {terms : List Term} {inForce more met others : List Pair} {state : State} → ((v : ℕ → ℚ) → Meets v more → Meets v inForce) → ((pair : Pair) → List·Memᴰ pair others → EqualRows (state .table) (pair .left) (pair .right)) → Invariant rank terms inForce met state → Invariant rank terms more others state
+pub restated : {rank : ℕ → ℕ} {terms : List Term} {inForce more met others : List Pair} {state : State} → ((v : ℕ → ℚ) → ValuesMeet v more → ValuesMeet v inForce) → ((pair : Pair) → List·Memᴰ pair others → EqualCells (state .table) (pair .left) (pair .right)) → Invariant rank terms inForce met state → Invariant rank terms more others state
 restated in-force equal inv = record {
   sized = inv .sized;
   columns = inv .columns;
@@ -41,8 +40,8 @@ restated in-force equal inv = record {
 -- was or one more unknown solved.
 pub record Merged (rank : ℕ → ℕ) (terms : List Term) (inForce met : List Pair) (t u : ℕ) (state after : State) : Type 0 where
   pub invariant : Invariant rank terms inForce met after
-  pub meets : EqualRows (after .table) t u
-  pub keeps : (i j : ℕ) → EqualRows (state .table) i j → EqualRows (after .table) i j
+  pub meets : EqualCells (after .table) t u
+  pub keeps : (i j : ℕ) → EqualCells (state .table) i j → EqualCells (after .table) i j
   pub grows : (after ≡ state) ⊎ (after .solved ≡ suc (state .solved))
 
 module _ (rank : ℕ → ℕ) (terms : List Term) (inForce met : List Pair) (state : State) (t u : ℕ)

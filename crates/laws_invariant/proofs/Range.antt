@@ -1,4 +1,4 @@
--- Build, difference and fold stop only with the refusal RANGE.
+-- Build, difference and fold stop only with a number outside the limits.
 -- Main results: `Ranged`, `difference-ranged`, `solve-ranged`, `built-ranged`. Assume nothing.
 use mathlib.Core.Path.{_≡_, refl}
 use mathlib.Core.Bool.{Bool, true, false, cond}
@@ -6,9 +6,8 @@ use mathlib.Core.List.{List, [], _∷_}
 use Prim.Native.Nat.{ℕ}
 use lib.ListN.{length}
 use lib.Dec.{eqb}
-use Rattle.answer.specs.Refusals.{RANGE}
 use Rattle.fraction.specs.Exact.{ℚ}
-use Rattle.fraction.specs.Limits.{tested, plus, minus, times, over}
+use Rattle.fraction.specs.Limits.{tested, Outside, plus, minus, times, over}
 use Rattle.fraction.specs.Made.{Made, made, stopped}
 use Rattle.fraction.proofs.Answers.{Answers, if-made, if-stopped, answers-bind, answers-tab}
 use Rattle.fraction.proofs.Bounded.{tested-stopped}
@@ -19,9 +18,9 @@ use Rattle.rules_run.specs.Row.{Row, Table, COLUMNS, row}
 use Rattle.rules_run.specs.Build.{builtColumn, built}
 use Rattle.rules_run.specs.Merge.{State, difference, solvedColumn, foldedColumn, folded, solve}
 
--- A step that stops only with RANGE.
+-- A step that stops only with a number outside the limits.
 abbrev pub Ranged {ℓ} : {A : Type ℓ} → Made ℕ A → Type ℓ
-Ranged step = Answers (λ a. Unit) (λ number. number ≡ RANGE) step
+Ranged step = Answers (λ a. Unit) Outside step
 
 tested-ranged : (q : ℚ) → Ranged (tested q)
 tested-ranged q = by (tested q) refl

@@ -10,7 +10,7 @@ use Rattle.fraction.specs.Exact.{ℚ, eqℚ}
 use Rattle.fraction.proofs.Equality.{eqℚ-yes, eqℚ-same}
 use Rattle.rules_run.specs.Row.{Row, Table, COLUMNS, column, rowOf, cell, sameTo, sameRow}
 use Rattle.rules_run.specs.Close.{sameRows}
-use Rattle.laws_invariant.specs.Rows.{EqualRows, EqualPlaces}
+use Rattle.laws_invariant.specs.Rows.{EqualCells, EqualPlaces}
 use Rattle.laws_invariant.proofs.Pivot.{last-or-before}
 
 sameTo-equal : (N : ℕ) (r s : Row) → (sameTo N r s ≡ true) ↔ ((c : ℕ) → c < N → column r c ≡ column s c)
@@ -24,7 +24,7 @@ sameTo-equal (suc k) r s =
     )
 
 -- The test of two rows finds them equal exactly if they have the same number in each column.
-pub sameRow-equal : (table : Table) (t u : ℕ) → (sameRow table t u ≡ true) ↔ EqualRows table t u
+pub sameRow-equal : (table : Table) (t u : ℕ) → (sameRow table t u ≡ true) ↔ EqualCells table t u
 unfolding sameRow cell
 sameRow-equal table t u = sameTo-equal COLUMNS (rowOf table t) (rowOf table u)
 
@@ -41,7 +41,7 @@ sameRows-equal table (t ∷ ts) (u ∷ us) =
     (λ h. (first .0 (both .0 h .0), rest .0 (both .0 h .1)), λ h. both .1 (first .1 (h .0), rest .1 (h .1)))
 
 -- Where equal rows have equal values, so have rows that are equal place by place.
-pub equal-places-values : (table : Table) (v : ℕ → ℚ) (ts us : List ℕ) → ((t u : ℕ) → List·Memᴰ t ts → List·Memᴰ u us → EqualRows table t u → v t ≡ v u) → EqualPlaces table ts us → map v ts ≡ map v us
+pub equal-places-values : (table : Table) (v : ℕ → ℚ) (ts us : List ℕ) → ((t u : ℕ) → List·Memᴰ t ts → List·Memᴰ u us → EqualCells table t u → v t ≡ v u) → EqualPlaces table ts us → map v ts ≡ map v us
 unfolding EqualPlaces
 equal-places-values table v [] [] equal same = refl
 equal-places-values table v [] (u ∷ us) equal same = absurd same
@@ -51,7 +51,7 @@ equal-places-values table v (t ∷ ts) (u ∷ us) equal same =
     (equal-places-values table v ts us (λ t u first second. equal t u (List·Memᴰ·tail first) (List·Memᴰ·tail second)) (same .1))
 
 -- Where equal values have equal rows, values that are equal place by place have rows that are.
-pub values-equal-places : (table : Table) (v : ℕ → ℚ) (ts us : List ℕ) → ((t u : ℕ) → List·Memᴰ t ts → List·Memᴰ u us → v t ≡ v u → EqualRows table t u) → map v ts ≡ map v us → EqualPlaces table ts us
+pub values-equal-places : (table : Table) (v : ℕ → ℚ) (ts us : List ℕ) → ((t u : ℕ) → List·Memᴰ t ts → List·Memᴰ u us → v t ≡ v u → EqualCells table t u) → map v ts ≡ map v us → EqualPlaces table ts us
 unfolding EqualPlaces
 values-equal-places table v [] [] equal same = tt
 values-equal-places table v [] (u ∷ us) equal same = let no-way : _≡_ {A = ℕ} 0 1 = cc in omega arith

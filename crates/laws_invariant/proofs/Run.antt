@@ -17,9 +17,9 @@ use Rattle.rules_problem.specs.Lookup.{kindAt}
 use Rattle.rules_problem.specs.Problem.{Pair, Problem}
 use Rattle.rules_run.specs.Merge.{State, Stop, contradiction, outside, merge}
 use Rattle.rules_run.specs.Close.{close}
-use Rattle.rules_run.specs.Run.{ends, assume, begin, run}
-use Rattle.laws_invariant.specs.Rows.{EqualRows}
-use Rattle.laws_invariant.specs.Invariant.{Shaped, SidesBelow, OneToOne, Meets, Equates, NoneMeets, isUnknown, count, Invariant, Completed, Stopped, Ended}
+use Rattle.rules_run.specs.Run.{Ranking, ends, assume, begin, run}
+use Rattle.laws_invariant.specs.Rows.{EqualCells}
+use Rattle.laws_invariant.specs.Invariant.{Shaped, SidesBelow, OneToOne, Strict, ValuesMeet, Equates, NoneMeets, isUnknown, count, Invariant, Completed, Stopped, Ended}
 use Rattle.laws_invariant.proofs.Build.{build-invariant}
 use Rattle.laws_invariant.proofs.Close.{close-answers, solved-at-most}
 use Rattle.laws_invariant.proofs.Merge.{Merged, restated, merge-answers}
@@ -29,20 +29,20 @@ module _ (rank : ℕ → ℕ) (terms : List Term) (one-to-one : OneToOne rank) (
   module _ (done : List Pair) (pair : Pair) (below : (pair .left < length terms) × (pair .right < length terms)) (state : State) (inv : Invariant rank terms done done state) where
     -- The assumption is in force before it is merged,
     in-force : Invariant rank terms (done ++ pair ∷ []) done state
-    unfolding Meets
+    unfolding ValuesMeet
     in-force = restated (λ v meets other member. meets other (Memᴰ·append-left (pair ∷ []) member)) (inv .equal) inv
 
     forced : Equates terms (done ++ pair ∷ []) (pair .left) (pair .right)
-    unfolding Equates Meets
+    unfolding Equates ValuesMeet
     forced v valued meets = meets pair (Memᴰ·append-right done (List·Memᴰ·head refl))
 
     -- and met after.
     now-met : (next : State) → Merged rank terms (done ++ pair ∷ []) done (pair .left) (pair .right) state next → Invariant rank terms (done ++ pair ∷ []) (done ++ pair ∷ []) next
     now-met next merged = restated (λ v meets. meets) (λ other member. by other (List·Memᴰ·append-cases done member)) (merged .invariant)
       where
-        by : (other : Pair) → List·Memᴰ other done ⊎ List·Memᴰ other (pair ∷ []) → EqualRows (next .table) (other .left) (other .right)
+        by : (other : Pair) → List·Memᴰ other done ⊎ List·Memᴰ other (pair ∷ []) → EqualCells (next .table) (other .left) (other .right)
         by other (inl before) = merged .invariant .equal other before
-        by other (inr now) = subst (λ q. EqualRows (next .table) (q .left) (q .right)) (sym (List·Memᴰ·eq-of-singleton now)) (merged .meets)
+        by other (inr now) = subst (λ q. EqualCells (next .table) (q .left) (q .right)) (sym (List·Memᴰ·eq-of-singleton now)) (merged .meets)
 
     -- One assumption more: merged, then closed.
     step-answers : Answers (Completed rank terms (done ++ pair ∷ []) (done ++ pair ∷ [])) (Stopped terms (done ++ pair ∷ [])) (merge rank (pair .left) (pair .right) state >>= close rank terms)
@@ -78,35 +78,35 @@ module _ (rank : ℕ → ℕ) (terms : List Term) (one-to-one : OneToOne rank) (
         (λ next step. assume-answers sides rest (done ++ pair ∷ []) (suc place) next whole (ap suc (sym far)) step)
 
 -- What meets all assumptions meets the first ones.
-meets-early : (v : ℕ → ℚ) (place : ℕ) (pairs : List Pair) → Meets v pairs → Meets v (take place pairs)
-unfolding Meets
+meets-early : (v : ℕ → ℚ) (place : ℕ) (pairs : List Pair) → ValuesMeet v pairs → ValuesMeet v (take place pairs)
+unfolding ValuesMeet
 meets-early v place pairs meets pair member = meets pair (subst (List·Memᴰ pair) (take-append-drop place pairs) (Memᴰ·append-left (drop place pairs) member))
 
-module _ (rank : ℕ → ℕ) (problem : Problem) (one-to-one : OneToOne rank) (shaped : Shaped (problem .terms)) (sides : SidesBelow (length (problem .terms)) (problem .pairs)) where
+module _ (ranking : Ranking) (problem : Problem) (strict : Strict ranking) (shaped : Shaped (problem .terms)) (sides : SidesBelow (length (problem .terms)) (problem .pairs)) where
   -- What the run answers: a completed state, or a stop and what it means.
-  pub run-answers : Answers (Completed rank (problem .terms) (problem .pairs) (problem .pairs)) (Ended (problem .terms) (problem .pairs)) (run rank problem)
-  unfolding run
+  pub run-answers : Answers (Completed (ranking (problem .terms)) (problem .terms) (problem .pairs) (problem .pairs)) (Ended (problem .terms) (problem .pairs)) (run ranking problem)
+  unfolding run Strict
   run-answers =
-      answers-bind (begin-answers rank (problem .terms) one-to-one shaped (problem .pairs))
-      (λ state complete. assume-answers rank (problem .terms) one-to-one shaped (problem .pairs) sides (problem .pairs) [] 1 state refl refl complete)
+      answers-bind (begin-answers (ranking (problem .terms)) (problem .terms) (strict (problem .terms)) shaped (problem .pairs))
+      (λ state complete. assume-answers (ranking (problem .terms)) (problem .terms) (strict (problem .terms)) shaped (problem .pairs) sides (problem .pairs) [] 1 state refl refl complete)
 
   -- A run that is made ends with all assumptions in force and met, and a closed table.
-  pub run-finished : (state : State) → run rank problem ≡ made state → Completed rank (problem .terms) (problem .pairs) (problem .pairs) state
+  pub run-finished : (state : State) → run ranking problem ≡ made state → Completed (ranking (problem .terms)) (problem .terms) (problem .pairs) (problem .pairs) state
   run-finished state h = answers-made run-answers h
 
-  -- A run that stops does so with a contradiction or the refusal RANGE.
-  pub run-stopped : (answer : Answer) → run rank problem ≡ stopped answer → Ended (problem .terms) (problem .pairs) answer
+  -- A run that stops does so with a contradiction or a number outside the limits.
+  pub run-stopped : (answer : Answer) → run ranking problem ≡ stopped answer → Ended (problem .terms) (problem .pairs) answer
   run-stopped answer h = answers-stopped run-answers h
 
   -- Contradictory at a place: no valuation meets the assumptions up to that place, let alone all of them.
-  pub run-contradicts-early : (place : ℕ) → run rank problem ≡ stopped (Contradictory place) → NoneMeets (problem .terms) (take place (problem .pairs))
+  pub run-contradicts-early : (place : ℕ) → run ranking problem ≡ stopped (Contradictory place) → NoneMeets (problem .terms) (take place (problem .pairs))
   unfolding Ended
   run-contradicts-early place h = run-stopped (Contradictory place) h
 
-  pub run-contradicts : (place : ℕ) → run rank problem ≡ stopped (Contradictory place) → NoneMeets (problem .terms) (problem .pairs)
+  pub run-contradicts : (place : ℕ) → run ranking problem ≡ stopped (Contradictory place) → NoneMeets (problem .terms) (problem .pairs)
   unfolding NoneMeets
   run-contradicts place h v valued meets = run-contradicts-early place h v valued (meets-early v place (problem .pairs) meets)
 
   -- The count is at most the number of variable and lookup records.
-  pub run-count : (state : State) → run rank problem ≡ made state → state .solved ≤ count (length (problem .terms)) (λ c. isUnknown (kindAt (problem .terms) c))
+  pub run-count : (state : State) → run ranking problem ≡ made state → state .solved ≤ count (length (problem .terms)) (λ c. isUnknown (kindAt (problem .terms) c))
   run-count state h = solved-at-most (run-finished state h .invariant)

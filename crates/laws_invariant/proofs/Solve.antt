@@ -12,11 +12,11 @@ use Rattle.whole.proofs.Solver.{ring}
 use Rattle.whole.proofs.Commutative.{combined}
 use Rattle.fraction.specs.Exact.{ℚ, zeroℚ, oneℚ, _+ℚ_, _-ℚ_, _*ℚ_}
 use Rattle.fraction.proofs.Equality.{ℚ-discrete}
-use Rattle.fraction.proofs.Field.{ℚ-ring, readsℚ, difference-zero}
+use Rattle.fraction.proofs.Field.{ℚ-ring, readsℚ}
 use Rattle.laws_linear.proofs.Alone.{alone-elsewhere}
 use Rattle.laws_linear.specs.Form.{Form, eval, foldForm}
 use Rattle.laws_linear.proofs.Eval.{eval-equal, eval-minus}
-use Rattle.laws_linear.proofs.Fold.{fold-there, fold-elsewhere, fold-equal, fold-minus, fold-without, fold-sound}
+use Rattle.laws_linear.proofs.Fold.{fold-there, fold-elsewhere, fold-equal, fold-without, fold-sound}
 use Rattle.rules_problem.specs.declared.Term.{Term}
 use Rattle.rules_problem.specs.Lookup.{kindAt}
 use Rattle.rules_problem.specs.Problem.{Pair}
@@ -24,15 +24,15 @@ use Rattle.laws_valuation.specs.Valuation.{lin}
 use Rattle.rules_run.specs.Row.{Row, Table, TERMS, COLUMNS, constant, column, cell}
 use Rattle.rules_run.specs.Build.{alone}
 use Rattle.rules_run.specs.Merge.{State}
-use Rattle.laws_invariant.specs.Rows.{EqualRows, solvedForm}
+use Rattle.laws_invariant.specs.Rows.{EqualCells, solvedForm}
 use Rattle.laws_invariant.specs.Invariant.{OneToOne, Equates, Unsolved, Lower, isUnknown, isSolved, count, Invariant}
 use Rattle.laws_invariant.proofs.Count.{count-one-more}
 use Rattle.laws_invariant.proofs.Keeps.{folds-equal}
 use Rattle.laws_invariant.proofs.Lin.{lin-congruent, lin-commutes, fold-linear}
-use Rattle.laws_invariant.proofs.Meets.{Differs, solve-meets}
+use Rattle.laws_invariant.proofs.Meets.{Differs}
 use Rattle.laws_invariant.proofs.Pivot.{Pivot, pivot-highest}
 use Rattle.laws_invariant.proofs.Solved.{unsolved-not-counted, lower-counted, known-not-counted}
-use Rattle.laws_invariant.proofs.SolvedForm.{solved-there, solved-nonzero, solved-cancels, solved-value}
+use Rattle.laws_invariant.proofs.SolvedForm.{solved-there, solved-nonzero, solved-value}
 use Rattle.laws_invariant.proofs.Steps.{Solves}
 use Rattle.laws_invariant.proofs.Units.{column-below, constant-apart}
 
@@ -67,7 +67,7 @@ module _ (rank : ℕ → ℕ) (terms : List Term) (inForce met : List Pair) (sta
   p-column = column-below (omega (arith, pivot .below))
 
   -- F3: rows that are equal stay equal.
-  pub solve-equal : (i j : ℕ) → EqualRows (state .table) i j → EqualRows (after .table) i j
+  pub solve-equal : (i j : ℕ) → EqualCells (state .table) i j → EqualCells (after .table) i j
   solve-equal = folds-equal p form (state .table) (after .table) p-column (solves .folds)
 
   -- A column of the difference that is not 0 is that of an unsolved unknown.

@@ -1,5 +1,5 @@
 -- The invariant of the run: what is true of the table after every step.
--- Main definitions: `isUnknown`, `Shaped`, `SidesBelow`, `OneToOne`, `Meets`, `Equates`, `NoneMeets`, `Unsolved`, `Lower`, `count`, `Invariant`, `Completed`, `Stopped`, `Ended`. Assumes nothing.
+-- Main definitions: `isUnknown`, `Shaped`, `SidesBelow`, `OneToOne`, `Strict`, `ValuesMeet`, `Equates`, `NoneMeets`, `Unsolved`, `Lower`, `count`, `Invariant`, `Completed`, `Stopped`, `Ended`. Assumes nothing.
 use mathlib.Core.Path.{_≡_}
 use mathlib.Core.Logic.{_≢_, _⊎_}
 use mathlib.Core.Bool.{Bool, true, false, _&&_, cond}
@@ -8,8 +8,8 @@ use Prim.Native.Nat.{ℕ, zero, suc, _+_, _≤_, _<_}
 use lib.ListN.{length, take}
 use Rattle.answer.specs.declared.Answer.{Answer}
 use Rattle.answer.specs.declared.Answer.the-variants.{Entailed, NotEntailed, Contradictory, Refused}
-use Rattle.answer.specs.Refusals.{RANGE}
 use Rattle.fraction.specs.Exact.{ℚ, zeroℚ, oneℚ, eqℚ}
+use Rattle.fraction.specs.Limits.{Outside}
 use Rattle.laws_linear.specs.Form.{eval}
 use Rattle.rules_problem.specs.declared.Kind.{Kind}
 use Rattle.rules_problem.specs.declared.Kind.the-variants.{Variable, Constant, Gain, Sum, Difference, Lookup1, Lookup2, Lookup3}
@@ -21,7 +21,8 @@ use Rattle.laws_valuation.specs.Written.{allInputs}
 use Rattle.rules_run.specs.Row.{TERMS, COLUMNS, Table, constant, cell}
 use Rattle.rules_run.specs.Build.{alone}
 use Rattle.rules_run.specs.Merge.{State, Stop, contradiction, outside}
-use Rattle.laws_invariant.specs.Rows.{EqualRows, Closed}
+use Rattle.rules_run.specs.Run.{Ranking}
+use Rattle.laws_invariant.specs.Rows.{EqualCells, ClosedTable}
 
 -- 01, The run: "Unknowns are variables and lookups."
 unfoldable pub isUnknown : Kind → Bool
@@ -49,17 +50,21 @@ SidesBelow n pairs = (pair : Pair) → List·Memᴰ pair pairs → (pair .left <
 unfoldable pub OneToOne : (rank : ℕ → ℕ) → Type 0
 OneToOne rank = (c k : ℕ) → c < TERMS → k < TERMS → rank c ≡ rank k → c ≡ k
 
+-- whatever the terms are: what the laws of the whole run ask of a ranking
+unfoldable pub Strict : Ranking → Type 0
+Strict ranking = (terms : List Term) → OneToOne (ranking terms)
+
 -- the values give both sides of each pair the same number
-unfoldable pub Meets : (v : ℕ → ℚ) → List Pair → Type 0
-Meets v pairs = (pair : Pair) → List·Memᴰ pair pairs → v (pair .left) ≡ v (pair .right)
+unfoldable pub ValuesMeet : (v : ℕ → ℚ) → List Pair → Type 0
+ValuesMeet v pairs = (pair : Pair) → List·Memᴰ pair pairs → v (pair .left) ≡ v (pair .right)
 
 -- every valuation that meets the pairs gives t and u the same number
 unfoldable pub Equates : List Term → List Pair → (t u : ℕ) → Type 0
-Equates terms pairs t u = (v : ℕ → ℚ) → Valuation terms v → Meets v pairs → v t ≡ v u
+Equates terms pairs t u = (v : ℕ → ℚ) → Valuation terms v → ValuesMeet v pairs → v t ≡ v u
 
 -- no valuation meets the pairs
 unfoldable pub NoneMeets : List Term → List Pair → Type 0
-NoneMeets terms pairs = (v : ℕ → ℚ) → Valuation terms v → Meets v pairs → ⊥
+NoneMeets terms pairs = (v : ℕ → ℚ) → Valuation terms v → ValuesMeet v pairs → ⊥
 
 -- The unknown c is unsolved: its row is 1 at itself.
 pub record Unsolved (terms : List Term) (table : Table) (c : ℕ) : Type 0 where
@@ -91,25 +96,25 @@ pub record Invariant (rank : ℕ → ℕ) (terms : List Term) (inForce met : Lis
   -- I3: the row of a constant, gain, sum, difference is that constant, multiple, sum, difference of rows
   pub arithmetic : (t c : ℕ) → t < length terms → c < COLUMNS → cell (state .table) t c ≡ lin (kindAt terms t) (λ i. cell (state .table) i c) (alone constant oneℚ c) (cell (state .table) t c)
   -- I4: every valuation that meets the assumptions in force gives each term the value of its row
-  pub sound : (v : ℕ → ℚ) → Valuation terms v → Meets v inForce → (t : ℕ) → t < length terms → v t ≡ eval TERMS (cell (state .table) t) v
+  pub sound : (v : ℕ → ℚ) → Valuation terms v → ValuesMeet v inForce → (t : ℕ) → t < length terms → v t ≡ eval TERMS (cell (state .table) t) v
   -- I5: the sides of each assumption met have equal rows
-  pub equal : (pair : Pair) → List·Memᴰ pair met → EqualRows (state .table) (pair .left) (pair .right)
+  pub equal : (pair : Pair) → List·Memᴰ pair met → EqualCells (state .table) (pair .left) (pair .right)
   -- I6: the count is the number of solved unknowns
   pub counted : state .solved ≡ count (length terms) (isSolved terms (state .table))
 
 -- The state after a closing: the invariant, and a closed table.
 pub record Completed (rank : ℕ → ℕ) (terms : List Term) (inForce met : List Pair) (state : State) : Type 0 where
   pub invariant : Invariant rank terms inForce met state
-  pub closed : Closed terms (state .table)
+  pub closed : ClosedTable terms (state .table)
 
 -- What a stop means with the assumptions `inForce`: no valuation meets them, or a number was outside the limits.
 unfoldable pub Stopped : List Term → (inForce : List Pair) → Stop → Type 0
 Stopped terms inForce contradiction = NoneMeets terms inForce
-Stopped terms inForce (outside number) = number ≡ RANGE
+Stopped terms inForce (outside number) = Outside number
 
 -- What an answer means that a run stops with: no valuation meets the assumptions up to the place, or a number was outside the limits.
 unfoldable pub Ended : List Term → List Pair → Answer → Type 0
 Ended terms pairs (Entailed solved) = ⊥
 Ended terms pairs (NotEntailed solved) = ⊥
 Ended terms pairs (Contradictory place) = NoneMeets terms (take place pairs)
-Ended terms pairs (Refused number place) = number ≡ RANGE
+Ended terms pairs (Refused number place) = Outside number

@@ -20,7 +20,7 @@ use Rattle.laws_valuation.specs.Valuation.{Valuation}
 use Rattle.rules_run.specs.Row.{TERMS, cell}
 use Rattle.rules_run.specs.Build.{alone}
 use Rattle.rules_run.specs.Merge.{State}
-use Rattle.laws_invariant.specs.Invariant.{Shaped, Meets, Unsolved, Completed}
+use Rattle.laws_invariant.specs.Invariant.{Shaped, ValuesMeet, Unsolved, Completed}
 use Rattle.laws_invariant.proofs.Units.{column-below}
 use Rattle.laws_truth.specs.Sums.{weighted, weightedRow}
 use Rattle.laws_truth.proofs.Weighted.{vanishes-exactly}
@@ -46,7 +46,7 @@ zero-unless q never = by (ℚ-discrete q zeroℚ)
     by (yes none) = none
     by (no other) = absurd (never other)
 
-module _ {rank : ℕ → ℕ} {terms : List Term} {pairs : List Pair} {state : State} (shaped : Shaped terms) (complete : Completed rank terms pairs pairs state) (f : Form) (vanishes : (v : ℕ → ℚ) → Valuation terms v → Meets v pairs → eval TERMS f v ≡ zeroℚ) where
+module _ {rank : ℕ → ℕ} {terms : List Term} {pairs : List Pair} {state : State} (shaped : Shaped terms) (complete : Completed rank terms pairs pairs state) (f : Form) (vanishes : (v : ℕ → ℚ) → Valuation terms v → ValuesMeet v pairs → eval TERMS f v ≡ zeroℚ) where
   -- D2w on forms: where a form vanishes wherever the assumptions are met, rows put for its columns give the zero row.
   pub image-vanishes : ((c : ℕ) → length terms ≤ c → c < TERMS → f c ≡ zeroℚ) → (c : ℕ) → c ≤ TERMS → weightedRow (length terms) f (f TERMS) (state .table) c ≡ zeroℚ
   unfolding weighted eval

@@ -5,6 +5,5 @@ pub mod Lists
 pub mod Order
 pub mod Outcomes
 pub mod Pairs
-pub mod Ranked
 pub mod Rows
 pub mod Shown

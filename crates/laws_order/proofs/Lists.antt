@@ -7,7 +7,7 @@ use native.Mathlib.Nat.{le-of-suc-le-suc}
 use native.Mathlib.Omega.{arith}
 use lib.ListN.{length, take}
 use lib.IntN.{ℤ}
-use Rattle.rules_run.specs.Row.{TERMS, COLUMNS, PLACES}
+use Rattle.rules_run.specs.Row.{COLUMNS, PLACES}
 use Rattle.rules_outcome.specs.Outcome.{overwritten, laidOut}
 
 -- Two lists, each long enough, whose first places were overwritten with the same numbers have the same first places.

@@ -1,58 +1,54 @@
--- Demand 3 of the rules: the order of the assumptions, their repeats and their sides do not matter.
+-- Demand 3 of the rules: the order of the assumptions, their repeats and their sides do not matter, for any ranking of the
+-- unknowns that ranks no two columns alike.
 -- Main results: `rules-ignore-order`, `accepted`, `same-bytes-same-outcome`. Assume nothing.
-use mathlib.Core.Path.{_≡_, refl}
-use mathlib.Core.Bool.{Bool, true, false, cond, _&&_}
+use mathlib.Core.Path.{_≡_, refl, ap}
+use mathlib.Core.Bool.{Bool, true, false}
 use mathlib.Core.List.{List}
-use Prim.Native.Nat.{ℕ, _≤_}
-use borrow.Author.Tests.{leb-true}
-use lib.Dec.{leb}
-use lib.ListN.{length}
-use lib.IntN.{ℤ}
+use Prim.Native.Nat.{ℕ}
 use Rattle.answer.specs.Refusals.{Refusal, SPACE}
-use Rattle.answer.specs.Said.{refused, said}
+use Rattle.answer.specs.Said.{said}
 use Rattle.fraction.specs.Made.{Made, made, stopped}
 use Rattle.rules_problem.specs.Problem.{Problem, decoded}
-use Rattle.rules_run.specs.Run.{byNumber}
-use Rattle.laws_invariant.specs.Invariant.{OneToOne}
-use Rattle.laws_invariant.proofs.Granted.{by-number-one-to-one}
-use Rattle.rules_run.specs.Row.{PLACES}
-use Rattle.rules_outcome.specs.Outcome.{unread, afterReading, decision, answered, after, outcome}
-use Rattle.rules_demands.specs.Demands.{wordOf}
-use Rattle.rules_demands.specs.Order.{NotRefused, SameOutcome, OrderDoesNotMatter}
+use Rattle.rules_run.specs.Run.{Ranking}
+use Rattle.laws_invariant.specs.Invariant.{Strict}
+use Rattle.rules_outcome.specs.Outcome.{Lent, Long, isLong, afterReading, decision, answered, after, outcome}
+use Rattle.rules_outcome.proofs.Decided.{long-is, outcome-short, outcome-answer}
+use Rattle.rules_demands.specs.Demands.{wordOf, NotRefused}
+use Rattle.rules_demands.specs.Order.{SameOutcome, OrderDoesNotMatter}
 use Rattle.laws_truth.proofs.Truthful.{rules-tell-the-truth}
 use Rattle.laws_order.specs.SameBytes.{SameBytes}
 use Rattle.laws_order.proofs.Bytes.{same-bytes-same}
 use Rattle.laws_order.proofs.Outcomes.{outcome-same, outcome-bounded}
 
--- Demand 3, for the rules; the table that is the same is the true one of demand 2.
-pub rules-ignore-order : OrderDoesNotMatter (λ bytes numerators denominators. outcome byNumber bytes numerators denominators)
-rules-ignore-order = record {
-  true-table = rules-tell-the-truth;
-  same = outcome-same byNumber by-number-one-to-one;
-  bounded = outcome-bounded byNumber by-number-one-to-one;
-}
-
 -- What is known where nothing is refused: lists that are long enough, and a problem.
-pub record Accepted (bytes : List ℕ) (numerators denominators : List ℤ) : Type 0 where
-  pub first : PLACES ≤ length numerators
-  pub second : PLACES ≤ length denominators
+pub record Accepted (bytes : List ℕ) (lent : Lent) : Type 0 where
+  pub long : Long lent
   pub problem : Problem
   pub read : decoded bytes ≡ made problem
 
-pub accepted : (rank : ℕ → ℕ) (bytes : List ℕ) (numerators denominators : List ℤ) → NotRefused (outcome rank bytes numerators denominators) → Accepted bytes numerators denominators
-unfolding NotRefused wordOf outcome decision afterReading after answered said
-accepted rank bytes numerators denominators passed = by (leb PLACES (length numerators)) (leb PLACES (length denominators)) (decoded bytes) refl refl refl passed
+pub accepted : (ranking : Ranking) (bytes : List ℕ) (lent : Lent) → NotRefused (outcome ranking bytes lent) → Accepted bytes lent
+unfolding NotRefused wordOf decision afterReading after answered said
+accepted ranking bytes lent passed = by (isLong lent) (decoded bytes) refl refl
   where
-    by : (b c : Bool) (d : Made Refusal Problem) → leb PLACES (length numerators) ≡ b → leb PLACES (length denominators) ≡ c → decoded bytes ≡ d → ((number : ℕ) → said (cond (b && c) (after (afterReading rank d) numerators denominators) (after (unread (record { number = SPACE; place = 0 })) numerators denominators) .answer) .word ≡ refused number → ⊥) → Accepted bytes numerators denominators
-    by true true (made problem) first second read passed = record { first = leb-true _ _ first; second = leb-true _ _ second; problem = problem; read = read }
-    by true true (stopped refusal) first second read passed = absurd (passed (refusal .number) refl)
-    by true false d first second read passed = absurd (passed SPACE refl)
-    by false c d first second read passed = absurd (passed SPACE refl)
+    by : (b : Bool) (d : Made Refusal Problem) → isLong lent ≡ b → decoded bytes ≡ d → Accepted bytes lent
+    by true (made problem) fits read = record { long = long-is lent fits; problem = problem; read = read }
+    by true (stopped refusal) fits read =
+        absurd (passed (refusal .number) (rw (outcome-answer ranking bytes lent (long-is lent fits), read)))
+    by false d short read = absurd (passed SPACE (ap (λ o. said (o .answer) .word) (outcome-short ranking bytes lent short)))
 
--- The same said of byte strings, for any fixed ranking: the order in which the pairs are written does not matter.
-pub same-bytes-same-outcome : (rank : ℕ → ℕ) → OneToOne rank → (bytes bytes′ : List ℕ) (numerators denominators numerators′ denominators′ : List ℤ) → SameBytes bytes bytes′ → NotRefused (outcome rank bytes numerators denominators) → NotRefused (outcome rank bytes′ numerators′ denominators′) → SameOutcome (outcome rank bytes numerators denominators) (outcome rank bytes′ numerators′ denominators′)
-same-bytes-same-outcome rank one-to-one bytes bytes′ numerators denominators numerators′ denominators′ same passed passed′ =
-    let a = accepted rank bytes numerators denominators passed in
-    let b = accepted rank bytes′ numerators′ denominators′ passed′ in
-    outcome-same rank one-to-one bytes bytes′ numerators denominators numerators′ denominators′ (a .problem) (b .problem) (a .first) (a .second) (b .first) (b .second) (a .read) (b .read)
-    (same-bytes-same bytes bytes′ same (a .problem) (b .problem) (a .read) (b .read)) passed passed′
+module _ (ranking : Ranking) (strict : Strict ranking) where
+  -- Demand 3, for the rules; the table that is the same is the true one of demand 2.
+  pub rules-ignore-order : OrderDoesNotMatter ranking (outcome ranking)
+  rules-ignore-order = record {
+    true-table = rules-tell-the-truth ranking strict;
+    same = outcome-same ranking strict;
+    bounded = outcome-bounded ranking strict;
+  }
+
+  -- The same said of byte strings: the order in which the pairs are written does not matter.
+  pub same-bytes-same-outcome : (bytes bytes′ : List ℕ) (lent lent′ : Lent) → SameBytes bytes bytes′ → NotRefused (outcome ranking bytes lent) → NotRefused (outcome ranking bytes′ lent′) → SameOutcome (outcome ranking bytes lent) (outcome ranking bytes′ lent′)
+  same-bytes-same-outcome bytes bytes′ lent lent′ same passed passed′ =
+      let a = accepted ranking bytes lent passed in
+      let b = accepted ranking bytes′ lent′ passed′ in
+      outcome-same ranking strict bytes bytes′ lent lent′ (a .problem) (b .problem) (a .long) (b .long) (a .read) (b .read)
+      (same-bytes-same bytes bytes′ same (a .problem) (b .problem) (a .read) (b .read)) passed passed′

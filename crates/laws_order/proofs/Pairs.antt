@@ -7,9 +7,9 @@ use Prim.Native.Nat.{ℕ}
 use Rattle.fraction.specs.Exact.{ℚ}
 use Rattle.rules_problem.specs.declared.Term.{Term}
 use Rattle.rules_problem.specs.Problem.{Pair, Problem}
-use Rattle.rules_reading.specs.Reading.{Reading, Meets as MeetsPair, MeetsAll}
+use Rattle.rules_reading.specs.Reading.{Reading, Meets, MeetsAll}
 use Rattle.rules_reading.specs.Forced.{Met}
-use Rattle.laws_invariant.specs.Invariant.{Meets}
+use Rattle.laws_invariant.specs.Invariant.{ValuesMeet}
 use Rattle.rules_demands.specs.Order.{swapped, Covers, SameUpToOrder}
 
 -- Numbers that are equal on both sides of each pair of a list are so for every list that it covers.
@@ -23,13 +23,13 @@ same-symmetric same = record { terms = sym (same .terms); goal = sym (same .goal
 
 module _ {p q : Problem} (same : SameUpToOrder p q) where
   -- The same problem up to order is met by the same values,
-  pub same-valuations : (v : ℕ → ℚ) → Meets v (p .pairs) ↔ Meets v (q .pairs)
-  unfolding Meets
+  pub same-valuations : (v : ℕ → ℚ) → ValuesMeet v (p .pairs) ↔ ValuesMeet v (q .pairs)
+  unfolding ValuesMeet
   same-valuations v = (covers-equal v (p .pairs) (q .pairs) (same .back), covers-equal v (q .pairs) (p .pairs) (same .there))
 
   -- and by the same readings,
   pub same-readings : {terms : List Term} (reading : Reading terms) → MeetsAll reading (p .pairs) ↔ MeetsAll reading (q .pairs)
-  unfolding MeetsAll MeetsPair
+  unfolding MeetsAll Meets
   same-readings reading = (covers-equal (reading .number) (p .pairs) (q .pairs) (same .back), covers-equal (reading .number) (q .pairs) (p .pairs) (same .there))
 
   -- so that where one can be met, the other can.

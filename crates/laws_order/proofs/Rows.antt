@@ -25,7 +25,7 @@ use Rattle.rules_run.specs.Row.{TERMS, COLUMNS, Row, Table, column, rowOf, cell
 use Rattle.rules_run.specs.Build.{alone}
 use Rattle.rules_run.specs.Merge.{State}
 use Rattle.rules_run.specs.Run.{judged}
-use Rattle.laws_invariant.specs.Invariant.{Shaped, Meets, Unsolved, Lower, isUnknown, isSolved, Completed}
+use Rattle.laws_invariant.specs.Invariant.{Shaped, ValuesMeet, Unsolved, Lower, isUnknown, isSolved, Completed}
 use Rattle.laws_invariant.proofs.Count.{count-equal}
 use Rattle.laws_invariant.proofs.Solved.{unsolved-there}
 use Rattle.laws_invariant.proofs.Steps.{cell-past}
@@ -45,12 +45,12 @@ abbrev less-row : Table → (c : ℕ) → Form
 less-row table c t = alone c oneℚ t -ℚ cell table c t
 
 module _ {rank : ℕ → ℕ} {terms : List Term} (shaped : Shaped terms) where
-  module _ {pairs pairs′ : List Pair} {state state′ : State} (complete : Completed rank terms pairs pairs state) (complete′ : Completed rank terms pairs′ pairs′ state′) (meets-too : (v : ℕ → ℚ) → Meets v pairs′ → Meets v pairs) where
+  module _ {pairs pairs′ : List Pair} {state state′ : State} (complete : Completed rank terms pairs pairs state) (complete′ : Completed rank terms pairs′ pairs′ state′) (meets-too : (v : ℕ → ℚ) → ValuesMeet v pairs′ → ValuesMeet v pairs) where
     module _ (c : ℕ) (lower : Lower rank (state .table) c) (unsolved : Unsolved terms (state′ .table) c) where
       inside : {t : ℕ} → t < length terms → t < TERMS
       inside below = let fits = shaped .fits in omega arith
 
-      vanishes : (v : ℕ → ℚ) → Valuation terms v → Meets v pairs′ → eval TERMS (less-row (state .table) c) v ≡ zeroℚ
+      vanishes : (v : ℕ → ℚ) → Valuation terms v → ValuesMeet v pairs′ → eval TERMS (less-row (state .table) c) v ≡ zeroℚ
       vanishes v valued meets =
           eval-minus TERMS (alone c oneℚ) (cell (state .table) c) v
           ∙ ap₂ _-ℚ_ (alone-value c v (inside (unsolved .below))) (sym (complete .invariant .sound v valued (meets-too v meets) c (unsolved .below)))
@@ -98,7 +98,7 @@ module _ {rank : ℕ → ℕ} {terms : List Term} (shaped : Shaped terms) where
     unsolved-too : (c : ℕ) → Unsolved terms (state′ .table) c → Unsolved terms (state .table) c
     unsolved-too c unsolved = ⊎-elim (λ own. own) (λ lower. absurd (solved-in-both c lower unsolved)) (complete .invariant .triangular c (unsolved .below) (unsolved .unknown))
 
-  module _ {pairs pairs′ : List Pair} {state state′ : State} (complete : Completed rank terms pairs pairs state) (complete′ : Completed rank terms pairs′ pairs′ state′) (same : (v : ℕ → ℚ) → Meets v pairs ↔ Meets v pairs′) where
+  module _ {pairs pairs′ : List Pair} {state state′ : State} (complete : Completed rank terms pairs pairs state) (complete′ : Completed rank terms pairs′ pairs′ state′) (same : (v : ℕ → ℚ) → ValuesMeet v pairs ↔ ValuesMeet v pairs′) where
     -- C2: the same unknowns are solved.
     pub same-unsolved : (c : ℕ) → Unsolved terms (state .table) c ↔ Unsolved terms (state′ .table) c
     same-unsolved c = (unsolved-too complete′ complete (λ v. same v .0) c, unsolved-too complete complete′ (λ v. same v .1) c)
@@ -111,7 +111,7 @@ module _ {rank : ℕ → ℕ} {terms : List Term} (shaped : Shaped terms) where
         difference : Form
         difference k = cell (state .table) t k -ℚ cell (state′ .table) t k
 
-        vanishes : t < length terms → (v : ℕ → ℚ) → Valuation terms v → Meets v pairs′ → eval TERMS difference v ≡ zeroℚ
+        vanishes : t < length terms → (v : ℕ → ℚ) → Valuation terms v → ValuesMeet v pairs′ → eval TERMS difference v ≡ zeroℚ
         vanishes below v valued meets =
             eval-minus TERMS (cell (state .table) t) (cell (state′ .table) t) v
             ∙ ap₂ _-ℚ_ (sym (complete .invariant .sound v valued (same v .1 meets) t below)) (sym (complete′ .invariant .sound v valued meets t below))

@@ -3,22 +3,18 @@
 use mathlib.Core.Path.{_≡_, refl, sym, ap, _∙_}
 use mathlib.Core.Logic.{_≢_, inr}
 use mathlib.Core.List.{List, [], _∷_, _++_}
-use Prim.Native.Nat.{ℕ, zero, suc, _≤_, _<_}
+use Prim.Native.Nat.{ℕ, zero, suc, _<_}
 use native.Mathlib.Omega.{arith}
-use lib.ListN.{length, List·getD-append}
-use lib.IntN.{ℤ}
+use lib.ListN.{List·getD-append}
 use Rattle.answer.specs.Said.{entailed, said}
-use Rattle.rules_problem.specs.Bits.{bitAt, field, signed16}
-use Rattle.rules_problem.specs.Problem.{refuse, termAt, pairAt, need, decoded}
-use Rattle.rules_problem.specs.Record.{fieldsAt, scaled, every, unless-faulty, kindOf}
-use Rattle.rules_run.specs.Computed.{computedRun}
-use Rattle.rules_run.specs.Run.{byNumber}
-use Rattle.laws_invariant.proofs.Granted.{by-number-one-to-one}
-use Rattle.rules_run.specs.Row.{PLACES}
-use Rattle.rules_outcome.specs.Outcome.{afterRun, afterReading, decision, answered, outcome}
+use Rattle.rules_problem.specs.Bits.{bitAt, field}
+use Rattle.rules_run.specs.Run.{highestNumber}
+use Rattle.laws_invariant.proofs.Granted.{highest-number-strict}
+use Rattle.rules_outcome.specs.Computed.{computedAnswer}
+use Rattle.rules_outcome.specs.Outcome.{Lent, Long, outcome}
 use Rattle.rules_outcome.proofs.Decided.{outcome-answer}
-use Rattle.rules_demands.specs.Demands.{wordOf}
-use Rattle.rules_demands.specs.Order.{NotRefused, SameOutcome}
+use Rattle.rules_demands.specs.Demands.{wordOf, NotRefused}
+use Rattle.rules_demands.specs.Order.{SameOutcome}
 use Rattle.laws_order.specs.SameBytes.{byteAt, termCount, pairCount, leftByte, rightByte, SamePair, PairsIn, SameBytes}
 use Rattle.laws_order.proofs.Order.{same-bytes-same-outcome}
 
@@ -51,41 +47,19 @@ turned = record { before = before; there = there; back = back }
     back (suc (suc k)) below = absurd (omega arith)
 
 -- Both strings are entailed,
-both-entailed : (said (answered (decision byNumber once)) .word ≡ entailed) × (said (answered (decision byNumber twice)) .word ≡ entailed)
-unfolding
-    once
-    twice
-    terms
-    computedRun
-    decision
-    answered
-    afterReading
-    afterRun
-    refuse
-    termAt
-    pairAt
-    need
-    decoded
-    fieldsAt
-    scaled
-    every
-    unless-faulty
-    kindOf
-    bitAt
-    field
-    signed16
-    said
+both-entailed : (computedAnswer once .word ≡ entailed) × (computedAnswer twice .word ≡ entailed)
+unfolding once twice terms computedAnswer
 both-entailed = (refl, refl)
 
 -- What is entailed is not refused,
-pub not-refused : (bytes : List ℕ) (numerators denominators : List ℤ) → PLACES ≤ length numerators → PLACES ≤ length denominators → said (answered (decision byNumber bytes)) .word ≡ entailed → NotRefused (outcome byNumber bytes numerators denominators)
-unfolding NotRefused wordOf
-not-refused bytes numerators denominators first second says number refuses =
-    let same = ap (λ a. said a .word) (outcome-answer byNumber bytes numerators denominators first second) in
+pub not-refused : (bytes : List ℕ) (lent : Lent) → Long lent → computedAnswer bytes .word ≡ entailed → NotRefused (outcome highestNumber bytes lent)
+unfolding NotRefused wordOf computedAnswer
+not-refused bytes lent long says number refuses =
+    let same = ap (λ a. said a .word) (outcome-answer highestNumber bytes lent long) in
     let no-way : _≡_ {A = ℕ} 0 1 = cc in omega arith
 
 -- so in lists that are long enough both end the same.
-shown : (numerators denominators numerators′ denominators′ : List ℤ) → PLACES ≤ length numerators → PLACES ≤ length denominators → PLACES ≤ length numerators′ → PLACES ≤ length denominators′ → SameOutcome (outcome byNumber once numerators denominators) (outcome byNumber twice numerators′ denominators′)
-shown numerators denominators numerators′ denominators′ first second first′ second′ =
-    same-bytes-same-outcome byNumber by-number-one-to-one once twice numerators denominators numerators′ denominators′ turned
-    (not-refused once numerators denominators first second (both-entailed .0)) (not-refused twice numerators′ denominators′ first′ second′ (both-entailed .1))
+shown : (lent lent′ : Lent) → Long lent → Long lent′ → SameOutcome (outcome highestNumber once lent) (outcome highestNumber twice lent′)
+shown lent lent′ long long′ =
+    same-bytes-same-outcome highestNumber highest-number-strict once twice lent lent′ turned
+    (not-refused once lent long (both-entailed .0)) (not-refused twice lent′ long′ (both-entailed .1))

@@ -22,8 +22,8 @@ use Rattle.laws_valuation.specs.Sound.{Sound}
 use Rattle.laws_valuation.specs.Values.{valueIn}
 use Rattle.rules_run.specs.Row.{TERMS}
 use Rattle.rules_run.specs.Merge.{State}
-use Rattle.rules_run.specs.Run.{run}
-use Rattle.laws_invariant.specs.Invariant.{OneToOne}
+use Rattle.rules_run.specs.Run.{Ranking, run}
+use Rattle.laws_invariant.specs.Invariant.{Strict}
 use Rattle.laws_truth.specs.Numbers.{total, weightedNumber}
 use Rattle.laws_truth.specs.Sums.{weighted, weightedRow}
 use Rattle.laws_truth.proofs.Decided.{finished-complete}
@@ -59,9 +59,9 @@ weighted-numbers {terms} weight k r =
 
 -- Every reading that meets the assumptions makes the weighted sum of the terms zero exactly if the same weighted sum of the rows
 -- of a finished run is zero in every column.
-pub balanced-exactly : (rank : ℕ → ℕ) (problem : Problem) → OneToOne rank → (sound : Sound problem) (state : State) → run rank problem ≡ made state → (weight : ℕ → ℤ) (k : ℤ) → ((met : Met problem) → weightedNumber weight k (met .reading) ≡ pos 0) ↔ ((c : ℕ) → c ≤ TERMS → weightedRow (length (problem .terms)) (λ t. whole (weight t)) (whole k) (state .table) c ≡ zeroℚ)
-balanced-exactly rank problem one-to-one sound state h weight k =
-    let rows = vanishes-exactly (sound-shaped problem sound) (finished-complete rank problem one-to-one sound state h) (λ t. whole (weight t)) (whole k) in (
+pub balanced-exactly : (ranking : Ranking) (problem : Problem) → Strict ranking → (sound : Sound problem) (state : State) → run ranking problem ≡ made state → (weight : ℕ → ℤ) (k : ℤ) → ((met : Met problem) → weightedNumber weight k (met .reading) ≡ pos 0) ↔ ((c : ℕ) → c ≤ TERMS → weightedRow (length (problem .terms)) (λ t. whole (weight t)) (whole k) (state .table) c ≡ zeroℚ)
+balanced-exactly ranking problem strict sound state h weight k =
+    let rows = vanishes-exactly (sound-shaped problem sound) (finished-complete ranking problem strict sound state h) (λ t. whole (weight t)) (whole k) in (
       λ balanced. rows .0 (λ v valued meets.
           let (met, values) = valued-met problem sound v valued meets in
           weighted-equal (length (problem .terms)) _ _ (λ t below. sym (values t below)) ∙ weighted-numbers weight k (met .reading) .0 (balanced met)),

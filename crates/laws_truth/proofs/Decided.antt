@@ -14,34 +14,34 @@ use Rattle.laws_valuation.specs.Sound.{Sound}
 use Rattle.laws_valuation.proofs.Readings.{valueIn-equal}
 use Rattle.rules_run.specs.Row.{sameRow}
 use Rattle.rules_run.specs.Merge.{State}
-use Rattle.rules_run.specs.Run.{run}
-use Rattle.laws_invariant.specs.Rows.{EqualRows}
-use Rattle.laws_invariant.specs.Invariant.{OneToOne, Completed}
+use Rattle.rules_run.specs.Run.{Ranking, run}
+use Rattle.laws_invariant.specs.Rows.{EqualCells}
+use Rattle.laws_invariant.specs.Invariant.{Strict, Completed}
 use Rattle.laws_invariant.proofs.Rows.{sameRow-equal}
 use Rattle.laws_invariant.proofs.Run.{run-finished, run-contradicts}
 use Rattle.laws_truth.proofs.Equated.{told-apart, equated-exactly}
 use Rattle.laws_invariant.proofs.Granted.{sound-shaped, sound-sides}
 use Rattle.laws_truth.proofs.Readings.{valued-met, none-met, forced-exactly}
 
-module _ (rank : ℕ → ℕ) (problem : Problem) (one-to-one : OneToOne rank) (sound : Sound problem) where
+module _ (ranking : Ranking) (problem : Problem) (strict : Strict ranking) (sound : Sound problem) where
   -- Where the run contradicts, no reading meets the assumptions.
-  pub stopped-contradictory : (place : ℕ) → run rank problem ≡ stopped (Contradictory place) → IsContradictory problem
-  stopped-contradictory place h = none-met problem sound (run-contradicts rank problem one-to-one (sound-shaped problem sound) (sound-sides problem sound) place h)
+  pub stopped-contradictory : (place : ℕ) → run ranking problem ≡ stopped (Contradictory place) → IsContradictory problem
+  stopped-contradictory place h = none-met problem sound (run-contradicts ranking problem strict (sound-shaped problem sound) (sound-sides problem sound) place h)
 
-  module _ (state : State) (h : run rank problem ≡ made state) where
+  module _ (state : State) (h : run ranking problem ≡ made state) where
     -- Where the run finishes, the invariant holds with all assumptions in force and met, and the table is closed.
-    pub finished-complete : Completed rank (problem .terms) (problem .pairs) (problem .pairs) state
-    finished-complete = run-finished rank problem one-to-one (sound-shaped problem sound) (sound-sides problem sound) state h
+    pub finished-complete : Completed (ranking (problem .terms)) (problem .terms) (problem .pairs) (problem .pairs) state
+    finished-complete = run-finished ranking problem strict (sound-shaped problem sound) (sound-sides problem sound) state h
 
     -- A reading meets the assumptions that gives terms equal numbers only if their rows are equal.
-    pub finished-met : (met : Met problem) × ((t u : ℕ) → t < length (problem .terms) → u < length (problem .terms) → met .reading .number t ≡ met .reading .number u → EqualRows (state .table) t u)
+    pub finished-met : (met : Met problem) × ((t u : ℕ) → t < length (problem .terms) → u < length (problem .terms) → met .reading .number t ≡ met .reading .number u → EqualCells (state .table) t u)
     finished-met =
         let (v, valued, meets, apart) = told-apart (sound-shaped problem sound) finished-complete in
         let (met, values) = valued-met problem sound v valued meets in
         (met, λ t u t-below u-below same. apart t u t-below u-below .0 (sym (values t t-below) ∙ valueIn-equal (met .reading) t u .0 same ∙ values u u-below))
 
     -- In the finished table two terms have equal rows exactly if the assumptions force them equal.
-    pub rows-forced : (t u : ℕ) → t < length (problem .terms) → u < length (problem .terms) → EqualRows (state .table) t u ↔ Forced problem (record { left = t; right = u })
+    pub rows-forced : (t u : ℕ) → t < length (problem .terms) → u < length (problem .terms) → EqualCells (state .table) t u ↔ Forced problem (record { left = t; right = u })
     rows-forced t u t-below u-below =
         Iff·trans (equated-exactly (sound-shaped problem sound) finished-complete t u t-below u-below) (forced-exactly problem sound t u t-below u-below)
 

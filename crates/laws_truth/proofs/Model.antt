@@ -17,8 +17,8 @@ use Rattle.laws_valuation.specs.Valuation.{lin, Valuation}
 use Rattle.rules_run.specs.Row.{TERMS, COLUMNS, Table, constant, cell}
 use Rattle.rules_run.specs.Build.{alone}
 use Rattle.rules_run.specs.Merge.{State}
-use Rattle.laws_invariant.specs.Rows.{EqualRows, Closed}
-use Rattle.laws_invariant.specs.Invariant.{Shaped, Meets, Completed}
+use Rattle.laws_invariant.specs.Rows.{EqualCells, ClosedTable}
+use Rattle.laws_invariant.specs.Invariant.{Shaped, ValuesMeet, Completed}
 use Rattle.laws_valuation.proofs.Readings.{lookup-inputs}
 use Rattle.laws_invariant.proofs.Lin.{lin-commutes, eval-linear}
 use Rattle.laws_invariant.proofs.Rows.{values-equal-places}
@@ -26,7 +26,7 @@ use Rattle.laws_invariant.proofs.Units.{column-below, constant-value}
 use Rattle.laws_truth.specs.Sums.{valueAt}
 
 -- Equal rows have equal values at every point.
-pub equal-rows-values : (table : Table) (a : ℕ → ℚ) (t u : ℕ) → EqualRows table t u → valueAt table a t ≡ valueAt table a u
+pub equal-rows-values : (table : Table) (a : ℕ → ℚ) (t u : ℕ) → EqualCells table t u → valueAt table a t ≡ valueAt table a u
 unfolding valueAt
 equal-rows-values table a t u same = eval-equal TERMS (λ c inside. same c (column-below inside)) (λ c inside nonzero. refl)
 
@@ -34,7 +34,7 @@ inside-columns : {c : ℕ} → c < COLUMNS → c ≤ TERMS
 inside-columns below = omega arith
 
 -- Where the point keeps different rows different, equal values are those of equal rows.
-pub equal-values : (n : ℕ) (table : Table) (a : ℕ → ℚ) → Separates TERMS n (cell table) a → (t u : ℕ) → t < n → u < n → (valueAt table a t ≡ valueAt table a u) ↔ EqualRows table t u
+pub equal-values : (n : ℕ) (table : Table) (a : ℕ → ℚ) → Separates TERMS n (cell table) a → (t u : ℕ) → t < n → u < n → (valueAt table a t ≡ valueAt table a u) ↔ EqualCells table t u
 unfolding Separates valueAt
 equal-values n table a apart t u t-below u-below = (
   λ equal. ⊎-elim (λ same c below. same c (inside-columns below)) (λ differ. absurd (apart t u t-below u-below differ equal)) (same-or-differ TERMS (cell table t) (cell table u)),
@@ -45,7 +45,7 @@ module _ {rank : ℕ → ℕ} {terms : List Term} {inForce met : List Pair} {sta
   -- A3, model: at a point that keeps different rows different the values of the rows are a valuation: sums, gains and constants by
   -- I3; lookups whose inputs have equal values have inputs with equal rows there, so equal rows, since the table is closed.
   pub model-valued : Separates TERMS (length terms) (cell (state .table)) a → Valuation terms (valueAt (state .table) a)
-  unfolding valueAt Closed
+  unfolding valueAt ClosedTable
   model-valued apart = record {
     obeys = λ t below.
         eval-equal TERMS (λ c inside. complete .invariant .arithmetic t c below (column-below inside)) (λ c inside nonzero. refl)
@@ -62,6 +62,6 @@ module _ {rank : ℕ → ℕ} {terms : List Term} {inForce met : List Pair} {sta
       input t below i first = omega (arith, shaped .earlier t below i (lookup-inputs (kindAt terms t) i first))
 
   -- It meets every assumption that has been met, at any point (I5).
-  pub model-meets : Meets (valueAt (state .table) a) met
-  unfolding Meets
+  pub model-meets : ValuesMeet (valueAt (state .table) a) met
+  unfolding ValuesMeet
   model-meets pair member = equal-rows-values (state .table) a (pair .left) (pair .right) (complete .invariant .equal pair member)

@@ -18,7 +18,7 @@ use Rattle.rules_problem.specs.Problem.{Pair}
 use Rattle.laws_valuation.specs.Valuation.{Valuation}
 use Rattle.rules_run.specs.Row.{TERMS, Table, cell}
 use Rattle.rules_run.specs.Merge.{State}
-use Rattle.laws_invariant.specs.Invariant.{Shaped, Meets, Completed}
+use Rattle.laws_invariant.specs.Invariant.{Shaped, ValuesMeet, Completed}
 use Rattle.laws_truth.specs.Sums.{valueAt, weighted, weightedRow}
 use Rattle.laws_truth.proofs.Model.{model-valued, model-meets}
 
@@ -35,7 +35,7 @@ weighted-equal n weight k same = ap (λ x. x +ℚ k) (sum-equal n (λ t below. a
 module _ {rank : ℕ → ℕ} {terms : List Term} {pairs : List Pair} {state : State} (shaped : Shaped terms) (complete : Completed rank terms pairs pairs state) where
   -- D2w: a weighted sum of the terms plus a constant vanishes in every valuation that meets the assumptions exactly if the same
   -- weighted sum of the rows is zero in every column.
-  pub vanishes-exactly : (weight : ℕ → ℚ) (k : ℚ) → ((v : ℕ → ℚ) → Valuation terms v → Meets v pairs → weighted (length terms) weight k v ≡ zeroℚ) ↔ ((c : ℕ) → c ≤ TERMS → weightedRow (length terms) weight k (state .table) c ≡ zeroℚ)
+  pub vanishes-exactly : (weight : ℕ → ℚ) (k : ℚ) → ((v : ℕ → ℚ) → Valuation terms v → ValuesMeet v pairs → weighted (length terms) weight k v ≡ zeroℚ) ↔ ((c : ℕ) → c ≤ TERMS → weightedRow (length terms) weight k (state .table) c ≡ zeroℚ)
   unfolding valueAt
   vanishes-exactly weight k = (
     λ vanishes. ⊎-elim (λ same. same) (λ differ. absurd (apart vanishes differ)) (same-or-differ TERMS (weightedRow (length terms) weight k (state .table)) (λ c. zeroℚ)),
@@ -45,7 +45,7 @@ module _ {rank : ℕ → ℕ} {terms : List Term} {pairs : List Pair} {state : S
         ∙ eval-constant TERMS (weightedRow (length terms) weight k (state .table)) v (λ c below. zeros c (omega arith)) ∙ zeros TERMS (omega arith),
   )
     where
-      apart : ((v : ℕ → ℚ) → Valuation terms v → Meets v pairs → weighted (length terms) weight k v ≡ zeroℚ) → Differ TERMS (weightedRow (length terms) weight k (state .table)) (λ c. zeroℚ) → ⊥
+      apart : ((v : ℕ → ℚ) → Valuation terms v → ValuesMeet v pairs → weighted (length terms) weight k v ≡ zeroℚ) → Differ TERMS (weightedRow (length terms) weight k (state .table)) (λ c. zeroℚ) → ⊥
       apart vanishes differ =
           let (a, separates, nonzero) = separated-with TERMS (length terms) (cell (state .table)) (weightedRow (length terms) weight k (state .table)) differ in
           nonzero (weighted-value (length terms) weight k (state .table) a ∙ vanishes (valueAt (state .table) a) (model-valued shaped complete a separates) (model-meets shaped complete a))

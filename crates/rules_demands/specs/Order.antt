@@ -1,21 +1,22 @@
--- Demand 3 on a deciding program, as a statement. Proved: of the rules, `rules-ignore-order` (crate `order`); of two calls of the
--- entry point, from its contract, `calls-agree` (crate `calls`).
+-- Demand 3 on a deciding program, as a statement, for the ranking that it runs with. Proved: of the rules, `rules-ignore-order` (crate
+-- `laws_order`), for every ranking that ranks no two columns alike; of two calls of the entry point, from its contract,
+-- `calls-agree` (crate `decide_calls`).
 -- Main definitions: `SameUpToOrder`, `SameOutcome`, `OrderDoesNotMatter`. Assumes nothing.
 use mathlib.Core.Path.{_≡_}
 use mathlib.Core.Logic.{_⊎_}
 use mathlib.Core.List.{List, [], _∷_, List·Memᴰ}
 use Prim.Native.Nat.{ℕ, _+_, _≤_}
-use lib.ListN.{length, take}
-use lib.IntN.{ℤ}
-use Rattle.answer.specs.Said.{refused, said}
+use lib.ListN.{take}
+use Rattle.answer.specs.Said.{said}
 use Rattle.fraction.specs.Made.{made}
 use Rattle.rules_problem.specs.declared.Kind.{Kind}
 use Rattle.rules_problem.specs.declared.Kind.the-variants.{Variable, Constant, Gain, Sum, Difference, Lookup1, Lookup2, Lookup3}
 use Rattle.rules_problem.specs.declared.Term.{Term}
 use Rattle.rules_problem.specs.Problem.{Pair, Problem, decoded}
 use Rattle.rules_run.specs.Row.{PLACES}
-use Rattle.rules_outcome.specs.Outcome.{Outcome}
-use Rattle.rules_demands.specs.Demands.{Program, wordOf, EqualIsTrue}
+use Rattle.rules_run.specs.Run.{Ranking}
+use Rattle.rules_outcome.specs.Outcome.{Lent, Long, Outcome}
+use Rattle.rules_demands.specs.Demands.{Program, wordOf, NotRefused, EqualIsTrue}
 
 unfoldable pub swapped : Pair → Pair
 swapped pair = record { left = pair .right; right = pair .left }
@@ -31,15 +32,16 @@ pub record SameUpToOrder (p q : Problem) : Type 0 where
   pub there : Covers (p .pairs) (q .pairs)
   pub back : Covers (q .pairs) (p .pairs)
 
-unfoldable pub NotRefused : Outcome → Type 0
-NotRefused o = (number : ℕ) → wordOf o ≡ refused number → ⊥
+-- the same numbers at all 4,160 places of each list
+pub record SameTable (left left′ : Lent) : Type 0 where
+  pub numerators : take PLACES (left .numerators) ≡ take PLACES (left′ .numerators)
+  pub denominators : take PLACES (left .denominators) ≡ take PLACES (left′ .denominators)
 
 -- "the same word, the same finished table number for number, the same count of solved unknowns"
 pub record SameOutcome (o o′ : Outcome) : Type 0 where
   pub word : wordOf o ≡ wordOf o′
   pub count : said (o .answer) .count ≡ said (o′ .answer) .count
-  pub numerators : take PLACES (o .numerators) ≡ take PLACES (o′ .numerators)
-  pub denominators : take PLACES (o .denominators) ≡ take PLACES (o′ .denominators)
+  pub table : SameTable (o .left) (o′ .left)
 
 -- 01: "Unknowns are variables and lookups."
 unfoldable pub unknown : Kind → ℕ
@@ -59,9 +61,13 @@ unknowns (term ∷ terms) = unknown (term .kind) + unknowns terms
 
 -- Demand 3. Sameness alone would admit a constant program, so the table that is the same is the one of demand 2: what a program
 -- shows of this demand includes `EqualIsTrue`, and with it every stand-in named there is ruled out here too.
-pub record OrderDoesNotMatter (program : Program) : Type 0 where
-  pub true-table : EqualIsTrue program
+pub record OrderDoesNotMatter (ranking : Ranking) (program : Program) : Type 0 where
+  pub true-table : EqualIsTrue ranking program
   -- "if neither is refused, the same word, the same finished table number for number, the same count"
-  pub same : (bytes bytes′ : List ℕ) (numerators denominators numerators′ denominators′ : List ℤ) (p q : Problem) → PLACES ≤ length numerators → PLACES ≤ length denominators → PLACES ≤ length numerators′ → PLACES ≤ length denominators′ → decoded bytes ≡ made p → decoded bytes′ ≡ made q → SameUpToOrder p q → NotRefused (program bytes numerators denominators) → NotRefused (program bytes′ numerators′ denominators′) → SameOutcome (program bytes numerators denominators) (program bytes′ numerators′ denominators′)
+  pub same : (bytes bytes′ : List ℕ) (lent lent′ : Lent) (p q : Problem) → Long lent → Long lent′
+      → decoded bytes ≡ made p → decoded bytes′ ≡ made q → SameUpToOrder p q
+      → NotRefused (program bytes lent) → NotRefused (program bytes′ lent′)
+      → SameOutcome (program bytes lent) (program bytes′ lent′)
   -- "the count is at most the number of variable and lookup records"
-  pub bounded : (bytes : List ℕ) (numerators denominators : List ℤ) (p : Problem) → decoded bytes ≡ made p → said (program bytes numerators denominators .answer) .count ≤ unknowns (p .terms)
+  pub bounded : (bytes : List ℕ) (lent : Lent) (p : Problem) → decoded bytes ≡ made p
+      → said (program bytes lent .answer) .count ≤ unknowns (p .terms)

@@ -14,6 +14,7 @@ use Rattle.fraction.specs.Limits.{limit}
 use Rattle.fraction.specs.Made.{Made, made}
 use Rattle.rules_problem.specs.Problem.{refuse}
 use Rattle.rules_run.specs.Row.{Row, Table, TERMS, COLUMNS, PLACES}
+use Rattle.rules_run.specs.Run.{Ranking}
 use Rattle.rules_outcome.specs.Outcome.{Decision, unread, cutShort, finished, decision, answered}
 use Rattle.rules_listing.specs.Line.{firstLine, rowLine}
 
@@ -29,8 +30,8 @@ listed (cutShort answer) = firstLine answer
 listed (finished answer table) = firstLine answer ++ rowLines 0 table
 
 -- "The program reads one problem from standard input (..) and writes": the text for a byte string
-unfoldable pub listing : (rank : ℕ → ℕ) → (bytes : List ℕ) → List ℕ
-listing rank bytes = listed (decision rank bytes)
+unfoldable pub listing : Ranking → (bytes : List ℕ) → List ℕ
+listing ranking bytes = listed (decision ranking bytes)
 
 -- "a fraction in lowest terms within the limits", of a numerator and a denominator as they stand in the lists
 unfoldable pub isFraction : (num den : ℤ) → Bool

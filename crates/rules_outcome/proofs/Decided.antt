@@ -1,34 +1,55 @@
--- What comes back where both lent lists are long enough: the decision's answer, and lists as it leaves them.
--- Main results: `after-answer`, `outcome-long-enough`, `outcome-answer`, `outcome-run`. Assume nothing.
-use mathlib.Core.Path.{_≡_, refl, ap, _∙_}
+-- What comes back where the lent lists are long enough: the decision's answer, and lists as it leaves them.
+-- Main results: `after-answer`, `outcome-long-enough`, `outcome-short`, `outcome-answer`, `outcome-run`. Assume nothing.
+use mathlib.Core.Path.{_≡_, refl, sym, ap, _∙_}
+use mathlib.Core.Bool.{Bool, true, false, true≢false, _&&_}
 use mathlib.Core.List.{List}
-use Prim.Native.Nat.{ℕ, _≤_}
-use borrow.Author.Tests.{le-leb}
+use Prim.Native.Nat.{ℕ}
+use borrow.Author.Tests.{le-leb, leb-true}
+use lib.Dec.{leb}
 use lib.ListN.{length}
-use lib.IntN.{ℤ}
+use Rattle.answer.specs.Refusals.{SPACE}
 use Rattle.fraction.specs.Made.{made}
 use Rattle.rules_problem.specs.Problem.{Problem, decoded}
-use Rattle.rules_run.specs.Run.{run}
+use Rattle.rules_run.specs.Run.{Ranking, run}
 use Rattle.rules_run.specs.Row.{PLACES}
-use Rattle.rules_outcome.specs.Outcome.{Decision, unread, cutShort, finished, afterRun, afterReading, decision, answered, after, outcome}
+use Rattle.rules_outcome.specs.Outcome.{Decision, unread, cutShort, finished, afterRun, afterReading, decision, answered, Lent, Long, isLong, after, outcome}
+
+-- The test of the lengths finds just what is long enough.
+pub is-long : (lent : Lent) → Long lent → isLong lent ≡ true
+unfolding isLong
+is-long lent long = rw (le-leb PLACES (length (lent .numerators)) (long .numerators), le-leb PLACES (length (lent .denominators)) (long .denominators))
+
+pub long-is : (lent : Lent) → isLong lent ≡ true → Long lent
+unfolding isLong
+long-is lent = by (leb PLACES (length (lent .numerators))) (leb PLACES (length (lent .denominators))) refl refl
+  where
+    by : (a b : Bool) → leb PLACES (length (lent .numerators)) ≡ a → leb PLACES (length (lent .denominators)) ≡ b → (a && b) ≡ true → Long lent
+    by true true first second passed = record { numerators = leb-true _ _ first; denominators = leb-true _ _ second }
+    by true false first second passed = absurd (true≢false (sym passed))
+    by false b first second passed = absurd (true≢false (sym passed))
 
 -- The answer is the decision's.
-pub after-answer : (d : Decision) (numerators denominators : List ℤ) → after d numerators denominators .answer ≡ answered d
+pub after-answer : (d : Decision) (lent : Lent) → after d lent .answer ≡ answered d
 unfolding after answered
-after-answer (unread refusal) numerators denominators = refl
-after-answer (cutShort answer) numerators denominators = refl
-after-answer (finished answer table) numerators denominators = refl
+after-answer (unread refusal) lent = refl
+after-answer (cutShort answer) lent = refl
+after-answer (finished answer table) lent = refl
 
-module _ (rank : ℕ → ℕ) (bytes : List ℕ) (numerators denominators : List ℤ) (first : PLACES ≤ length numerators) (second : PLACES ≤ length denominators) where
+-- Lists of which one is too short stay, refused with SPACE.
+pub outcome-short : (ranking : Ranking) (bytes : List ℕ) (lent : Lent) → isLong lent ≡ false → outcome ranking bytes lent ≡ after (unread (record { number = SPACE; place = 0 })) lent
+unfolding outcome
+outcome-short ranking bytes lent short = rw short
+
+module _ (ranking : Ranking) (bytes : List ℕ) (lent : Lent) (long : Long lent) where
   -- Lists that are long enough end as the decision leaves them.
-  pub outcome-long-enough : outcome rank bytes numerators denominators ≡ after (decision rank bytes) numerators denominators
+  pub outcome-long-enough : outcome ranking bytes lent ≡ after (decision ranking bytes) lent
   unfolding outcome
-  outcome-long-enough = rw (le-leb PLACES (length numerators) first, le-leb PLACES (length denominators) second)
+  outcome-long-enough = rw (is-long lent long)
 
-  pub outcome-answer : outcome rank bytes numerators denominators .answer ≡ answered (decision rank bytes)
-  outcome-answer = ap (λ o. o .answer) outcome-long-enough ∙ after-answer (decision rank bytes) numerators denominators
+  pub outcome-answer : outcome ranking bytes lent .answer ≡ answered (decision ranking bytes)
+  outcome-answer = ap (λ o. o .answer) outcome-long-enough ∙ after-answer (decision ranking bytes) lent
 
   -- A problem that is decoded comes back as its run leaves it.
-  pub outcome-run : (problem : Problem) → decoded bytes ≡ made problem → outcome rank bytes numerators denominators ≡ after (afterRun problem (run rank problem)) numerators denominators
+  pub outcome-run : (problem : Problem) → decoded bytes ≡ made problem → outcome ranking bytes lent ≡ after (afterRun problem (run ranking problem)) lent
   unfolding decision afterReading
-  outcome-run problem read = outcome-long-enough ∙ ap (λ r. after (afterReading rank r) numerators denominators) read
+  outcome-run problem read = outcome-long-enough ∙ ap (λ r. after (afterReading ranking r) lent) read

@@ -1,3 +1,4 @@
 pub mod Cells
 pub mod Decided
 pub mod Laid
+pub mod Shown

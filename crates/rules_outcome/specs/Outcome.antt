@@ -1,8 +1,8 @@
--- What comes back: the decision of a byte string, and what both lent lists hold afterwards, for every length of the lists.
--- Main definitions: `Decision`, `decision`, `Outcome`, `outcome`. Assumes nothing.
-use mathlib.Core.Bool.{_&&_, cond}
+-- What comes back: the decision of a byte string, and what the lent lists hold afterwards, for every length of each.
+-- Main definitions: `Decision`, `decision`, `Lent`, `Long`, `Outcome`, `outcome`. Assumes nothing.
+use mathlib.Core.Bool.{Bool, _&&_, cond}
 use mathlib.Core.List.{List, [], _∷_}
-use Prim.Native.Nat.{ℕ, zero, suc, _/_, _%_}
+use Prim.Native.Nat.{ℕ, zero, suc, _/_, _%_, _≤_}
 use lib.ListN.{length}
 use lib.Dec.{leb}
 use lib.IntN.{ℤ, pos}
@@ -13,7 +13,7 @@ use Rattle.fraction.specs.Made.{Made, made, stopped}
 use Rattle.rules_problem.specs.Problem.{Problem, decoded}
 use Rattle.rules_run.specs.Row.{Table, COLUMNS, PLACES, cell}
 use Rattle.rules_run.specs.Merge.{State}
-use Rattle.rules_run.specs.Run.{run, judged}
+use Rattle.rules_run.specs.Run.{Ranking, run, judged}
 
 -- How a decision ends: the record is refused, the run stops, or it finishes with a table.
 pub data Decision : Type 0 where
@@ -25,22 +25,35 @@ unfoldable pub afterRun : Problem → Made Answer State → Decision
 afterRun problem (made state) = finished (judged (problem .goal) state) (state .table)
 afterRun problem (stopped answer) = cutShort answer
 
-unfoldable pub afterReading : (rank : ℕ → ℕ) → Made Refusal Problem → Decision
-afterReading rank (made problem) = afterRun problem (run rank problem)
-afterReading rank (stopped refusal) = unread refusal
+unfoldable pub afterReading : Ranking → Made Refusal Problem → Decision
+afterReading ranking (made problem) = afterRun problem (run ranking problem)
+afterReading ranking (stopped refusal) = unread refusal
 
-unfoldable pub decision : (rank : ℕ → ℕ) → (bytes : List ℕ) → Decision
-decision rank bytes = afterReading rank (decoded bytes)
+unfoldable pub decision : Ranking → (bytes : List ℕ) → Decision
+decision ranking bytes = afterReading ranking (decoded bytes)
 
 unfoldable pub answered : Decision → Answer
 answered (unread refusal) = Refused (refusal .number) (refusal .place)
 answered (cutShort answer) = answer
 answered (finished answer table) = answer
 
-pub record Outcome : Type 0 where
-  pub answer : Answer
+-- 01, What comes back: "The caller lends two lists of signed 32-bit numbers, numerators and denominators"
+pub record Lent : Type 0 where
   pub numerators : List ℤ
   pub denominators : List ℤ
+
+-- "4,160 places": each list has them
+pub record Long (lent : Lent) : Type 0 where
+  pub numerators : PLACES ≤ length (lent .numerators)
+  pub denominators : PLACES ≤ length (lent .denominators)
+
+unfoldable pub isLong : Lent → Bool
+isLong lent = leb PLACES (length (lent .numerators)) && leb PLACES (length (lent .denominators))
+
+-- the answer, and the lists as they are left
+pub record Outcome : Type 0 where
+  pub answer : Answer
+  pub left : Lent
 
 -- a list whose first `count` places hold what g gives for each, and whose others stay: "Places beyond those never change."
 unfoldable pub overwritten : (count : ℕ) → (g : ℕ → ℤ) → List ℤ → List ℤ
@@ -52,23 +65,29 @@ overwritten (suc count) g (x ∷ list) = g 0 ∷ overwritten count (λ p. g (suc
 unfoldable pub laidOut : (g : (t c : ℕ) → ℤ) → List ℤ → List ℤ
 laidOut g list = overwritten PLACES (λ p. g (p / COLUMNS) (p % COLUMNS)) list
 
--- 01, What comes back, the column "lists afterwards": "unchanged" for 1 to 6; "numerators 0, denominators 0" for contradictory
--- and 7; "the rows; rows n to 63 all 0/1" for entailed and not-entailed
-unfoldable pub after : Decision → (numerators denominators : List ℤ) → Outcome
-after (unread refusal) numerators denominators =
-    record { answer = answered (unread refusal); numerators = numerators; denominators = denominators }
-after (cutShort answer) numerators denominators =
-    record { answer = answer; numerators = laidOut (λ t c. pos 0) numerators; denominators = laidOut (λ t c. pos 0) denominators }
-after (finished answer table) numerators denominators =
+-- "numerators 0, denominators 0"
+unfoldable pub zeros : Lent → Lent
+zeros lent =
     record {
-      answer = answer;
-      numerators = laidOut (λ t c. cell table t c .num) numerators;
-      denominators = laidOut (λ t c. pos (cell table t c .den)) denominators;
+      numerators = laidOut (λ t c. pos 0) (lent .numerators);
+      denominators = laidOut (λ t c. pos 0) (lent .denominators);
     }
 
+-- "the rows; rows n to 63 all 0/1": a cell past the last row of a table is 0/1
+unfoldable pub rows : Table → Lent → Lent
+rows table lent =
+    record {
+      numerators = laidOut (λ t c. cell table t c .num) (lent .numerators);
+      denominators = laidOut (λ t c. pos (cell table t c .den)) (lent .denominators);
+    }
+
+-- the column "lists afterwards": "unchanged" for 1 to 6, zeros for contradictory and 7, the rows for entailed and not-entailed
+unfoldable pub after : Decision → Lent → Outcome
+after (unread refusal) lent = record { answer = answered (unread refusal); left = lent }
+after (cutShort answer) lent = record { answer = answer; left = zeros lent }
+after (finished answer table) lent = record { answer = answer; left = rows table lent }
+
 -- "Tests run in the order 1 to 7": "1 SPACE | a lent list is too short | 0 | unchanged", then the others
-unfoldable pub outcome : (rank : ℕ → ℕ) → (bytes : List ℕ) → (numerators denominators : List ℤ) → Outcome
-outcome rank bytes numerators denominators =
-    cond (leb PLACES (length numerators) && leb PLACES (length denominators))
-    (after (decision rank bytes) numerators denominators)
-    (after (unread (record { number = SPACE; place = 0 })) numerators denominators)
+unfoldable pub outcome : Ranking → (bytes : List ℕ) → Lent → Outcome
+outcome ranking bytes lent =
+    cond (isLong lent) (after (decision ranking bytes) lent) (after (unread (record { number = SPACE; place = 0 })) lent)

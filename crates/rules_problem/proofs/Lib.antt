@@ -1,3 +1,5 @@
+pub mod Enough
 pub mod Holding
 pub mod Recorded
 pub mod Shown
+pub mod Widths

@@ -2,14 +2,11 @@
 -- Main results: `case-a-decoded`, `least-mantissa`, `first-fault-first`. Assume nothing.
 use mathlib.Core.Path.{_≡_, refl}
 use mathlib.Core.List.{List, [], _∷_}
-use mathlib.Core.Option.{some, none}
 use Prim.Native.Nat.{ℕ, zero, suc, _/_, _%_, _^_}
 use lib.IntN.{pos, negsuc}
 use Rattle.answer.specs.Refusals.{Refusal, SHORT, COUNT, LENGTH, TERM, PAIR}
 use Rattle.fraction.specs.Made.{Made, made, stopped, _>>=_, tab}
-use Rattle.rules_problem.specs.declared.Kind.{Kind}
 use Rattle.rules_problem.specs.declared.Kind.the-variants.{Variable, Constant, Gain, Lookup1}
-use Rattle.rules_problem.specs.declared.Term.{Term}
 use Rattle.rules_problem.specs.Bits.{bitAt, field, signed16}
 use Rattle.rules_problem.specs.Record.{fieldsAt, scaled, every, unless-faulty, kindOf}
 use Rattle.rules_problem.specs.Problem.{Problem, refuse, termAt, pairAt, need, decoded}

@@ -2,13 +2,12 @@
 -- Main definitions: `Problem`, `decoded`. Assumes nothing.
 use mathlib.Core.Bool.{Bool, true, false, _&&_, cond}
 use mathlib.Core.List.{List}
-use mathlib.Core.Option.{Option, some, none}
+use mathlib.Core.Option.{some, none}
 use Prim.Native.Nat.{ℕ, _+_, _-_, _*_}
 use lib.ListN.{length}
 use lib.Dec.{eqb, ltb, leb}
 use Rattle.answer.specs.Refusals.{Refusal, SHORT, COUNT, LENGTH, TERM, PAIR}
 use Rattle.fraction.specs.Made.{Made, made, stopped, _>>=_, tab}
-use Rattle.rules_problem.specs.declared.Kind.{Kind}
 use Rattle.rules_problem.specs.declared.Term.{Term}
 use Rattle.rules_problem.specs.Bits.{field}
 use Rattle.rules_problem.specs.Record.{fieldsAt, kindOf}

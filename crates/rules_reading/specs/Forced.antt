@@ -1,8 +1,5 @@
 -- What the assumptions of a problem force, over all readings: the words of demand 2.
 -- Main definitions: `Met`, `Forced`, `IsContradictory`, `IsEntailed`, `IsNotEntailed`. Assumes nothing.
-use mathlib.Core.Path.{_≡_}
-use mathlib.Core.Logic.{_≢_}
-use Prim.Native.Nat.{ℕ}
 use Rattle.rules_problem.specs.Problem.{Pair, Problem}
 use Rattle.rules_reading.specs.Reading.{Reading, Meets, MeetsAll}
 

@@ -5,13 +5,11 @@ use mathlib.Core.List.{List, [], _∷_, map}
 use Prim.Native.Nat.{ℕ}
 use lib.IntN.{ℤ, pos}
 use Rattle.answer.specs.declared.Answer.{Answer}
-use Rattle.answer.specs.declared.Answer.the-variants.{Entailed, NotEntailed, Contradictory, Refused}
-use Rattle.fraction.specs.Made.{Made, made, stopped}
+use Rattle.answer.specs.declared.Answer.the-variants.{Entailed, Contradictory}
+use Rattle.fraction.specs.Made.{made, stopped}
 use Rattle.rules_problem.specs.declared.Kind.{Kind}
-use Rattle.rules_problem.specs.declared.Kind.the-variants.{Variable, Constant, Gain, Sum, Difference, Lookup1, Lookup2, Lookup3}
-use Rattle.rules_problem.specs.declared.Term.{Term}
+use Rattle.rules_problem.specs.declared.Kind.the-variants.{Variable, Constant, Difference, Lookup1}
 use Rattle.rules_problem.specs.Problem.{Pair, Problem}
-use Rattle.rules_run.specs.Merge.{State}
 use Rattle.rules_run.specs.Run.{judged}
 use Rattle.rules_run.specs.Computed.{computedRun}
 

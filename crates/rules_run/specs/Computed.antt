@@ -2,11 +2,11 @@
 -- Main definition: `computedRun`. Assumes nothing.
 use Rattle.answer.specs.declared.Answer.{Answer}
 use Rattle.rules_problem.specs.Problem.{Problem}
-use Rattle.rules_run.specs.Run.{byNumber, ends, assume, begin, run, judged}
+use Rattle.rules_run.specs.Run.{byNumber, highestNumber, ends, assume, begin, run, judged}
 use Rattle.rules_run.specs.Close.{sameRows, isDue, first, due, closeFor, close}
 use Rattle.rules_run.specs.Merge.{State, difference, higher, pivot, solvedColumn, foldedColumn, folded, solve, settle, merge}
 use Rattle.rules_run.specs.Build.{alone, builtColumn, built}
-use Rattle.rules_run.specs.Row.{TERMS, constant, COLUMNS, column, rowOf, cell, row, sameTo, sameRow}
+use Rattle.rules_run.specs.Row.{column, rowOf, cell, row, sameTo, sameRow}
 use Rattle.rules_problem.specs.Lookup.{callOf, inputsOf, sameFunction, alike, kindAt}
 use Rattle.fraction.specs.Made.{Made, _>>=_, tab, because}
 use Rattle.fraction.specs.Limits.{limit, within, tested, plus, minus, times, over}
@@ -18,6 +18,7 @@ use Rattle.whole.specs.Signed.{signed}
 unfoldable pub computedRun : Problem → Made Answer State
 unfolding
     byNumber
+    highestNumber
     ends
     assume
     begin
@@ -41,9 +42,6 @@ unfolding
     alone
     builtColumn
     built
-    TERMS
-    constant
-    COLUMNS
     column
     rowOf
     cell
@@ -82,4 +80,4 @@ unfolding
     gcd
     euclid
     signed
-computedRun problem = run byNumber problem
+computedRun problem = run highestNumber problem

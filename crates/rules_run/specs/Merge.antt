@@ -1,6 +1,6 @@
 -- Merging two terms: the difference of their rows, the unknown it solves, and the fold into every row.
 -- Main definitions: `State`, `Stop`, `pivot`, `solvedColumn`, `foldedColumn`, `merge`. Assumes nothing.
-use mathlib.Core.Bool.{Bool, true, false, cond}
+use mathlib.Core.Bool.{cond}
 use mathlib.Core.Option.{Option, some, none}
 use Prim.Native.Nat.{ℕ, zero, suc}
 use lib.ListN.{length}

@@ -1,5 +1,5 @@
 -- The run: build, close, then each assumption in file order.
--- Main definitions: `byNumber`, `run`, `judged`. Assumes nothing.
+-- Main definitions: `Ranking`, `byNumber`, `highestNumber`, `run`, `judged`. Assumes nothing.
 use mathlib.Core.Bool.{cond}
 use mathlib.Core.List.{List, [], _∷_}
 use Prim.Native.Nat.{ℕ, suc}
@@ -13,9 +13,18 @@ use Rattle.rules_run.specs.Build.{built}
 use Rattle.rules_run.specs.Merge.{State, Stop, contradiction, outside, merge}
 use Rattle.rules_run.specs.Close.{close}
 
--- Which unknown a merge solves is the one of highest rank: "the highest-numbered term" ranks by its number.
-unfoldable pub byNumber : ℕ → ℕ
+-- Which unknown a merge solves: for the terms of a problem the rank of each column, of which the highest is solved. Only the terms
+-- have a say in it. 01, Errors to shut out: "Choosing the unknown to solve by the order met, which breaks demand 3."
+abbrev pub Ranking : Type 0
+Ranking = (terms : List Term) → (c : ℕ) → ℕ
+
+-- 01, Merge: "the highest-numbered term with a nonzero coefficient is solved": a column ranks by its number,
+unfoldable pub byNumber : (c : ℕ) → ℕ
 byNumber c = c
+
+-- whatever the terms are
+unfoldable pub highestNumber : Ranking
+highestNumber terms = byNumber
 
 -- what a run that stops at an assumption answers: 01, What comes back, the places of contradictory and 7
 unfoldable pub ends : (place : ℕ) → Stop → Answer
@@ -34,8 +43,11 @@ begin rank terms =
     because (ends 0)
     (because outside (built terms []) >>= λ table. close rank terms (record { table = table; solved = 0 }))
 
-unfoldable pub run : (rank : ℕ → ℕ) → Problem → Made Answer State
-run rank problem = begin rank (problem .terms) >>= assume rank (problem .terms) 1 (problem .pairs)
+unfoldable pub run : Ranking → Problem → Made Answer State
+run ranking problem =
+    let terms = problem .terms in
+    let rank = ranking terms in
+    begin rank terms >>= assume rank terms 1 (problem .pairs)
 
 -- 01, What comes back: "entailed, not-entailed | goal rows equal, unequal", with the count of solved unknowns
 unfoldable pub judged : Pair → State → Answer

@@ -1,88 +1,98 @@
 -- Which lists a run leaves: the rows and 0/1 behind them, or zeros.
--- Main results: `rows-left`, `zeros-left`. Assume nothing.
-use mathlib.Core.Path.{_≡_, refl, sym, ap, _∙_, subst}
+-- Main results: `finishes-entailed`, `finishes-not-entailed`, `clears`. Assume nothing.
+use mathlib.Core.Path.{_≡_, sym, ap, _∙_, subst}
 use mathlib.Core.Logic.{inl, inr}
+use mathlib.Core.Bool.{Bool, true, false}
 use mathlib.Core.List.{List}
 use Prim.Native.Nat.{ℕ, _+_, _*_, _/_, _%_, _≤_, _<_}
 use native.Mathlib.Nat.{div-add-mod, mod-lt}
 use native.Mathlib.Decide.{decLt}
 use native.Mathlib.Omega.{arith}
-use lib.ListN.{length, getD, List·getD-eq-default}
-use lib.IntN.{ℤ, pos, natAbs}
+use lib.ListN.{getD, List·getD-eq-default}
+use lib.IntN.{ℤ, pos}
 use Rattle.answer.specs.declared.Answer.{Answer}
-use Rattle.fraction.specs.Exact.{ℚ, whole, zeroℚ, value}
-use Rattle.fraction_reduce.specs.Values.{Good}
+use Rattle.answer.specs.declared.Answer.the-variants.{Entailed, NotEntailed}
+use Rattle.fraction.specs.Exact.{whole, zeroℚ, value}
 use Rattle.fraction_reduce.proofs.Lowest.{value-num, value-den}
-use Rattle.rules_run.specs.Row.{TERMS, COLUMNS, column, rowOf, cell, PLACES}
-use Rattle.run_table.specs.Held.{heldAt, rowAt, tableAt, SoundTo}
+use Rattle.rules_run.specs.Row.{COLUMNS, PLACES, column, rowOf, cell, sameRow}
+use Rattle.rules_run.specs.Run.{judged}
+use Rattle.run_table.specs.Held.{heldAt}
+use Rattle.run_table.specs.Work.{Work, tableOf, Rows}
 use Rattle.run_table.proofs.Columns.{column-held, row-held, table-length}
-use Rattle.run_fill.specs.Contract.{Filled}
-use Rattle.rules_outcome.specs.Outcome.{finished, cutShort, after, laidOut}
+use Rattle.run_fill.specs.Filled.{Filled}
+use Rattle.rules_outcome.specs.Outcome.{rows, zeros, after, laidOut}
 use Rattle.rules_outcome.proofs.Laid.{laid-out-is}
-use Rattle.run_finish.specs.Leaves.{leaves}
+use Rattle.run_finish.specs.Lent.{lentOf}
+use Rattle.run_finish.specs.Contract.{Finishable, Finishes, Clears}
 
-module _ (n : ℕ) (nums dens : List ℤ) (sound : SoundTo (65 * n) nums dens) where
+module _ {n : ℕ} {w : Work} (ready : Rows n w) where
   -- a cell of the table is the fraction at its place; past the last row it is 0
-  cell-held : (t c : ℕ) → t < n → c < 65 → cell (tableAt n nums dens) t c ≡ value (heldAt nums dens (65 * t + c))
+  cell-held : (t c : ℕ) → t < n → c < COLUMNS → cell (tableOf n w) t c ≡ value (heldAt (w .nums) (w .dens) (COLUMNS * t + c))
   unfolding cell
   cell-held t c t-below c-below =
-      ap (λ r. column r c) (row-held n nums dens t t-below) ∙ column-held nums dens (65 * t) c c-below
+      ap (λ r. column r c) (row-held n (w .nums) (w .dens) t t-below) ∙ column-held (w .nums) (w .dens) (COLUMNS * t) c c-below
 
-  cell-beyond : (t c : ℕ) → n ≤ t → cell (tableAt n nums dens) t c ≡ zeroℚ
+  cell-beyond : (t c : ℕ) → n ≤ t → cell (tableOf n w) t c ≡ zeroℚ
   unfolding cell rowOf column
   cell-beyond t c beyond =
-      ap (λ r. column r c) (List·getD-eq-default (tableAt n nums dens) _ (subst (λ l. l ≤ t) (sym (table-length n nums dens)) beyond))
+      ap (λ r. column r c) (List·getD-eq-default (tableOf n w) _ (subst (λ l. l ≤ t) (sym (table-length n (w .nums) (w .dens))) beyond))
 
-  place-is : (p : ℕ) → 65 * (p / 65) + p % 65 ≡ p
-  place-is p = div-add-mod p 65
+  module _ {nums′ dens′ : List ℤ} (nums-filled : Filled (COLUMNS * n) PLACES (pos 0) (w .nums) nums′) (dens-filled : Filled (COLUMNS * n) PLACES (pos 1) (w .dens) dens′) where
+    num-at : (p : ℕ) → Dec (p < COLUMNS * n) → p < PLACES → getD nums′ p (pos 0) ≡ cell (tableOf n w) (p / COLUMNS) (p % COLUMNS) .num
+    unfolding zeroℚ whole
+    num-at p (yes low) below =
+        let t-below : p / COLUMNS < n = omega arith in
+        let c-below : p % COLUMNS < COLUMNS = mod-lt p (omega arith) in
+        nums-filled .outside p (inl low)
+        ∙ sym
+        (ap (λ q. q .num) (cell-held (p / COLUMNS) (p % COLUMNS) t-below c-below)
+        ∙ ap (λ k. value (heldAt (w .nums) (w .dens) k) .num) (div-add-mod p COLUMNS)
+        ∙ value-num (ready .sound .good p low))
+    num-at p (no high) below =
+        let far : COLUMNS * n ≤ p = omega arith in
+        let beyond : n ≤ p / COLUMNS = omega arith in
+        nums-filled .inside p far below ∙ sym (ap (λ q. q .num) (cell-beyond (p / COLUMNS) (p % COLUMNS) beyond))
 
-  -- The lists after the rows: what stood in them below 65n, and 0/1 from there to the last place.
-  pub rows-left : {nums′ dens′ : List ℤ} → n ≤ 64 → Filled (65 * n) 4160 (pos 0) nums nums′ → Filled (65 * n) 4160 (pos 1) dens dens′ → (answer : Answer) → after (finished answer (tableAt n nums dens)) nums dens ≡ leaves answer nums′ dens′
-  unfolding after zeroℚ whole
-  rows-left {nums′} {dens′} few nums-filled dens-filled answer =
-      λ i. record { answer = answer; numerators = laid-nums i; denominators = laid-dens i }
-    where
-      num-at : (p : ℕ) → Dec (p < 65 * n) → p < 4160 → getD nums′ p (pos 0) ≡ cell (tableAt n nums dens) (p / 65) (p % 65) .num
-      num-at p (yes low) below =
-          let t-below : p / 65 < n = omega arith in
-          let c-below : p % 65 < 65 = mod-lt p (omega arith) in
-          nums-filled .outside p (inl low)
-          ∙ sym
-          (ap (λ q. q .num) (cell-held (p / 65) (p % 65) t-below c-below)
-          ∙ ap (λ k. value (heldAt nums dens k) .num) (place-is p)
-          ∙ value-num (sound .good p low))
-      num-at p (no high) below =
-          let far : 65 * n ≤ p = omega arith in
-          let beyond : n ≤ p / 65 = omega arith in
-          nums-filled .inside p far below ∙ sym (ap (λ q. q .num) (cell-beyond (p / 65) (p % 65) beyond))
+    den-at : (p : ℕ) → Dec (p < COLUMNS * n) → p < PLACES → getD dens′ p (pos 0) ≡ pos (cell (tableOf n w) (p / COLUMNS) (p % COLUMNS) .den)
+    unfolding zeroℚ whole
+    den-at p (yes low) below =
+        let t-below : p / COLUMNS < n = omega arith in
+        let c-below : p % COLUMNS < COLUMNS = mod-lt p (omega arith) in
+        dens-filled .outside p (inl low)
+        ∙ ready .sound .good p low .upward
+        ∙ sym
+        (ap (λ q. pos (q .den)) (cell-held (p / COLUMNS) (p % COLUMNS) t-below c-below)
+        ∙ ap (λ k. pos (value (heldAt (w .nums) (w .dens) k) .den)) (div-add-mod p COLUMNS)
+        ∙ ap pos (value-den (ready .sound .good p low)))
+    den-at p (no high) below =
+        let far : COLUMNS * n ≤ p = omega arith in
+        let beyond : n ≤ p / COLUMNS = omega arith in
+        dens-filled .inside p far below ∙ sym (ap (λ q. pos (q .den)) (cell-beyond (p / COLUMNS) (p % COLUMNS) beyond))
 
-      den-at : (p : ℕ) → Dec (p < 65 * n) → p < 4160 → getD dens′ p (pos 0) ≡ pos (cell (tableAt n nums dens) (p / 65) (p % 65) .den)
-      den-at p (yes low) below =
-          let t-below : p / 65 < n = omega arith in
-          let c-below : p % 65 < 65 = mod-lt p (omega arith) in
-          dens-filled .outside p (inl low)
-          ∙ sound .good p low .upward
-          ∙ sym
-          (ap (λ q. pos (q .den)) (cell-held (p / 65) (p % 65) t-below c-below)
-          ∙ ap (λ k. pos (value (heldAt nums dens k) .den)) (place-is p)
-          ∙ ap pos (value-den (sound .good p low)))
-      den-at p (no high) below =
-          let far : 65 * n ≤ p = omega arith in
-          let beyond : n ≤ p / 65 = omega arith in
-          dens-filled .inside p far below ∙ sym (ap (λ q. pos (q .den)) (cell-beyond (p / 65) (p % 65) beyond))
+    -- The lists after the rows: what stood in them below 65n, and 0/1 from there to the last place.
+    rows-left : rows (tableOf n w) (lentOf (w .nums) (w .dens)) ≡ lentOf nums′ dens′
+    unfolding rows
+    rows-left i = record {
+      numerators = laid-out-is (λ t c. cell (tableOf n w) t c .num) (w .nums) nums′ (nums-filled .same-length) (λ p low long. num-at p (decLt p (COLUMNS * n)) low) (λ p far. nums-filled .outside p (inr far)) i;
+      denominators = laid-out-is (λ t c. pos (cell (tableOf n w) t c .den)) (w .dens) dens′ (dens-filled .same-length) (λ p low long. den-at p (decLt p (COLUMNS * n)) low) (λ p far. dens-filled .outside p (inr far)) i;
+    }
 
-      laid-nums : laidOut (λ t c. cell (tableAt n nums dens) t c .num) nums ≡ nums′
-      laid-nums = laid-out-is _ nums nums′ (nums-filled .same-length) (λ p low long. num-at p (decLt p (65 * n)) low) (λ p far. nums-filled .outside p (inr far))
+module _ {n left right solved : ℕ} {w : Work} {nums′ dens′ : List ℤ} {same : Bool} (ready : Finishable n left right w) (tested : same ≡ sameRow (tableOf n w) left right) (nums-filled : Filled (COLUMNS * n) PLACES (pos 0) (w .nums) nums′) (dens-filled : Filled (COLUMNS * n) PLACES (pos 1) (w .dens) dens′) where
+  -- Where the goal's rows are equal, and where they are not.
+  pub finishes-entailed : same ≡ true → Finishes n left right solved (Entailed solved) w (lentOf nums′ dens′)
+  unfolding after judged
+  finishes-entailed equal = record { outcome = rw (← tested, equal, rows-left (ready .rows) nums-filled dens-filled) }
 
-      laid-dens : laidOut (λ t c. pos (cell (tableAt n nums dens) t c .den)) dens ≡ dens′
-      laid-dens = laid-out-is _ dens dens′ (dens-filled .same-length) (λ p low long. den-at p (decLt p (65 * n)) low) (λ p far. dens-filled .outside p (inr far))
+  pub finishes-not-entailed : same ≡ false → Finishes n left right solved (NotEntailed solved) w (lentOf nums′ dens′)
+  unfolding after judged
+  finishes-not-entailed unequal = record { outcome = rw (← tested, unequal, rows-left (ready .rows) nums-filled dens-filled) }
 
 -- The lists after a stop: 0 in every place.
-pub zeros-left : {nums dens nums′ dens′ : List ℤ} → Filled 0 4160 (pos 0) nums nums′ → Filled 0 4160 (pos 0) dens dens′ → (answer : Answer) → after (cutShort answer) nums dens ≡ leaves answer nums′ dens′
-unfolding after
-zeros-left {nums} {dens} {nums′} {dens′} nums-filled dens-filled answer =
-    λ i. record { answer = answer; numerators = zeros nums nums′ nums-filled i; denominators = zeros dens dens′ dens-filled i }
+pub clears : {answer : Answer} {nums dens nums′ dens′ : List ℤ} → Filled 0 PLACES (pos 0) nums nums′ → Filled 0 PLACES (pos 0) dens dens′ → Clears answer answer (lentOf nums dens) (lentOf nums′ dens′)
+unfolding after zeros
+clears {answer} {nums} {dens} {nums′} {dens′} nums-filled dens-filled =
+    record { outcome = λ i. record { answer = answer; left = record { numerators = all nums nums′ nums-filled i; denominators = all dens dens′ dens-filled i } } }
   where
-    zeros : (list list′ : List ℤ) → Filled 0 4160 (pos 0) list list′ → laidOut (λ t c. pos 0) list ≡ list′
-    zeros list list′ filled =
+    all : (list list′ : List ℤ) → Filled 0 PLACES (pos 0) list list′ → laidOut (λ t c. pos 0) list ≡ list′
+    all list list′ filled =
         laid-out-is _ list list′ (filled .same-length) (λ p low long. filled .inside p (omega arith) low) (λ p far. filled .outside p (inr far))

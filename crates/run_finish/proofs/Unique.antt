@@ -1,21 +1,25 @@
 -- Each contract leaves one answer and one content of both lists.
--- Main results: `with-rows-unique`, `cleared-unique`. Assume nothing.
+-- Main results: `comes-back-one`, `with-rows-unique`, `cleared-unique`. Assume nothing.
 use mathlib.Core.Path.{_≡_, sym, ap, _∙_}
-use mathlib.Core.List.{List}
-use lib.IntN.{ℤ}
+use denote.Ref.{now}
+use Rattle.unique.specs.Twice.{Twice}
 use Rattle.answer.specs.declared.Answer.{Answer}
-use Rattle.rules_outcome.specs.Outcome.{Outcome}
-use Rattle.run_finish.specs.Leaves.{leaves}
+use Rattle.rules_outcome.specs.Outcome.{Lent, Outcome}
+use Rattle.run_finish.specs.Lent.{comesBack}
+use Rattle.run_finish.proofs.with_rows.Kinds as rows
+use Rattle.run_finish.proofs.with_rows.Reads as rows-reads
+use Rattle.run_finish.proofs.cleared.Kinds as cleared
+use Rattle.run_finish.proofs.cleared.Reads as cleared-reads
 
--- What is left is one answer and two lists.
-pub leaves-one : (o : Outcome) (r s : Answer) (nums dens nums′ dens′ : List ℤ) → o ≡ leaves r nums dens → o ≡ leaves s nums′ dens′ → (r ≡ s) × (nums ≡ nums′) × (dens ≡ dens′)
-leaves-one o r s nums dens nums′ dens′ p q =
-    let same = sym p ∙ q in
-    (ap (λ x. x .answer) same, ap (λ x. x .numerators) same, ap (λ x. x .denominators) same)
+-- What comes back is one answer, and one content of each list.
+pub comes-back-one : {o : Outcome} {r s : Answer} {left left′ : Lent} → o ≡ comesBack r left → o ≡ comesBack s left′ → (r ≡ s) × (left .numerators ≡ left′ .numerators) × (left .denominators ≡ left′ .denominators)
+comes-back-one first second =
+    let same = sym first ∙ second in
+    (ap (λ o. o .answer) same, ap (λ o. o .left .numerators) same, ap (λ o. o .left .denominators) same)
 
--- Both contracts say that the outcome of a decision is what is left, so `leaves-one` is the law of each.
-pub with-rows-unique : (o : Outcome) (r s : Answer) (nums dens nums′ dens′ : List ℤ) → o ≡ leaves r nums dens → o ≡ leaves s nums′ dens′ → (r ≡ s) × (nums ≡ nums′) × (dens ≡ dens′)
-with-rows-unique = leaves-one
+-- The answer is fixed, and both lists are, to the last place. Said of the contracts themselves: of what the toolchain reads from them.
+pub with-rows-unique : Twice rows.ps rows.r rows-reads.Post λ κs a x y end end′. (x ≡ y) × (now (end .0) ≡ now (end′ .0)) × (now (end .1 .0) ≡ now (end′ .1 .0))
+with-rows-unique κs a x y end end′ first second = comes-back-one (first .outcome) (second .outcome)
 
-pub cleared-unique : (o : Outcome) (r s : Answer) (nums dens nums′ dens′ : List ℤ) → o ≡ leaves r nums dens → o ≡ leaves s nums′ dens′ → (r ≡ s) × (nums ≡ nums′) × (dens ≡ dens′)
-cleared-unique = leaves-one
+pub cleared-unique : Twice cleared.ps cleared.r cleared-reads.Post λ κs a x y end end′. (x ≡ y) × (now (end .0) ≡ now (end′ .0)) × (now (end .1 .0) ≡ now (end′ .1 .0))
+cleared-unique κs a x y end end′ first second = comes-back-one (first .outcome) (second .outcome)

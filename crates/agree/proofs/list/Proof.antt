@@ -1,7 +1,6 @@
 -- `agree::list` meets its contract: what both calls promise together. Assumes nothing.
 use native.Mathlib.Omega.{arith}
 use borrow.Author.Needs.{needs}
-use Rattle.rules_run.specs.Row.{PLACES}
 use Rattle.agree.proofs.Printed.{calls-print}
 use Rattle.agree.proofs.list.Statement.{statement}
 use Rattle.agree.proofs.list.Tie as tie
@@ -29,10 +28,10 @@ same-length c = search needs
 
 returns : tie.Need-returns
 returns c =
-    let listed = c .before .before in
-    let decided = listed .before .before .before .before .before .before in
-    let start = decided .before .before .before .before .before in
-    (listed .listing-of .ensures .within, calls-print _ _ _ _ _ _ _ _ _ (omega arith) (omega arith) (start .pre) (decided .decide .ensures) (listed .listing-of .ensures))
+    let listed : tie.After-listing-of = search in
+    let decided : tie.After-decide = search in
+    let start : tie.Start = search in
+    (listed .listing-of .ensures .within, calls-print (record { numerators = omega arith; denominators = omega arith }) (start .pre) (decided .decide .ensures) (listed .listing-of .ensures))
 
 pub list-spec : {M : Type 1} → statement M
 list-spec =

@@ -1,46 +1,8 @@
 -- `decide::decide_sound` meets its contract. Assumes nothing.
-use Rattle.run_progress.proofs.Going.{going-holds}
-use Rattle.decide.proofs.Whole.{read-facts, sound-rows, sound-cleared}
+use Rattle.decide.proofs.Whole.{read-facts, facts-held, then-finishable, decides-rows, decides-cleared}
 use borrow.Author.Needs.{needs}
 use Rattle.decide.proofs.decide_sound.Statement.{statement}
 use Rattle.decide.proofs.decide_sound.Tie as tie
-
--- the places, each found by its type
-abbrev answer-of-dens3 : tie.After-dens3 → tie.After-answer
-answer-of-dens3 x = search
-
-abbrev cleared-of-dens3 : tie.After-dens3 → tie.After-cleared
-cleared-of-dens3 x = search
-
-abbrev run-all-of-dens2 : tie.After-dens2 → tie.After-run-all
-run-all-of-dens2 x = search
-
-abbrev run-all-of-dens3 : tie.After-dens3 → tie.After-run-all
-run-all-of-dens3 x = search
-
-abbrev run-all-of-sets3 : tie.After-sets3 → tie.After-run-all
-run-all-of-sets3 x = search
-
-abbrev solved-of-dens2 : tie.After-dens2 → tie.After-solved
-solved-of-dens2 x = search
-
-abbrev solved-of-sets3 : tie.After-sets3 → tie.After-solved
-solved-of-sets3 x = search
-
-abbrev start-of-dens2 : tie.After-dens2 → tie.Start
-start-of-dens2 x = search
-
-abbrev start-of-dens3 : tie.After-dens3 → tie.Start
-start-of-dens3 x = search
-
-abbrev start-of-sets : tie.After-sets → tie.Start
-start-of-sets x = search
-
-abbrev start-of-sets3 : tie.After-sets3 → tie.Start
-start-of-sets3 x = search
-
-abbrev with-rows-of-dens2 : tie.After-dens2 → tie.After-with-rows
-with-rows-of-dens2 x = search
 
 slice-aggregate-run-all : tie.Need-slice-aggregate-run-all
 slice-aggregate-run-all c = search needs
@@ -53,9 +15,20 @@ slice-aggregate-run-all-3 c = search needs
 
 run-all-requires : tie.Need-run-all-requires
 run-all-requires c κs =
-    let start = start-of-sets c in
-    let facts = read-facts _ _ (start .pre .0) in
-    (record { problem = facts .problem; same = facts .held }, ((facts .terms, facts .pairs), (search needs, search needs)))
+    let s : tie.Start = search in
+    let facts = read-facts (s .pre .sound) in
+    record {
+      begins = record {
+        held = facts-held facts;
+        terms = facts .terms;
+        nums-fit = s .pre .long .numerators;
+        dens-fit = s .pre .long .denominators;
+        heads-size = search needs;
+        inputs-size = search needs;
+        sets-size = search needs;
+      };
+      pairs = facts .pairs;
+    }
 
 enum-known-solved : tie.Need-enum-known-solved
 enum-known-solved c = search needs
@@ -65,17 +38,16 @@ slice-aggregate-with-rows c = search needs
 
 with-rows-requires : tie.Need-with-rows-requires
 with-rows-requires c κs =
-    let start = start-of-sets3 c in
-    let facts = read-facts _ _ (start .pre .0) in
-    let going = solved-of-sets3 c .solved .given .1 in
-    let ran-so = run-all-of-sets3 c .run-all .ensures in
-    ((facts .few, facts .left-below, facts .right-below), (search needs, (going-holds going (ran-so .1 .1 .0), (search needs, going-holds going (ran-so .1 .1 .1)))))
+    let told : tie.After-solved = search in
+    let all : tie.After-run-all = search in
+    let s : tie.Start = search in
+    then-finishable (s .pre) (all .run-all .ensures) (told .solved .given .1)
 
 enum-known-answer : tie.Need-enum-known-answer
 enum-known-answer c = search needs
 
 cleared-requires : tie.Need-cleared-requires
-cleared-requires c κs = search needs
+cleared-requires c κs = record { numerators = search needs; denominators = search needs }
 
 same-length : tie.Need-same-length
 same-length c = search needs
@@ -85,10 +57,11 @@ same-length-2 c = search needs
 
 returns : tie.Need-returns
 returns c =
-    let start = start-of-dens2 c in
-    let facts = read-facts _ _ (start .pre .0) in
-    let ran-so = run-all-of-dens2 c .run-all .ensures in
-    sound-rows _ _ facts _ _ _ _ _ _ _ _ _ (ran-so .0 (facts .problem) (facts .held)) (solved-of-dens2 c .solved .given .1) (ran-so .1 .0) (with-rows-of-dens2 c .with-rows .ensures)
+    let rows : tie.After-with-rows = search in
+    let told : tie.After-solved = search in
+    let all : tie.After-run-all = search in
+    let s : tie.Start = search in
+    decides-rows (s .pre) (all .run-all .ensures) (told .solved .given .1) (rows .with-rows .ensures)
 
 same-length-3 : tie.Need-same-length-3
 same-length-3 c = search needs
@@ -98,10 +71,11 @@ same-length-4 c = search needs
 
 returns-2 : tie.Need-returns-2
 returns-2 c =
-    let start = start-of-dens3 c in
-    let facts = read-facts _ _ (start .pre .0) in
-    let ran-so = run-all-of-dens3 c .run-all .ensures in
-    sound-cleared _ _ facts _ _ _ _ _ _ _ _ _ (ran-so .0 (facts .problem) (facts .held)) (answer-of-dens3 c .answer .given .1) (ran-so .1 .0) (cleared-of-dens3 c .cleared .ensures)
+    let zeros : tie.After-cleared = search in
+    let told : tie.After-answer = search in
+    let all : tie.After-run-all = search in
+    let s : tie.Start = search in
+    decides-cleared (s .pre) (all .run-all .ensures) (told .answer .given .1) (zeros .cleared .ensures)
 
 pub decide-sound-spec : {M : Type 1} → statement M
 decide-sound-spec =

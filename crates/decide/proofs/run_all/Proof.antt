@@ -1,22 +1,15 @@
 -- `decide::run_all` meets its contract. Assumes nothing.
-use Rattle.run_table.proofs.Columns.{kept-then}
-use Rattle.run_progress.proofs.Going.{while-going, going-holds}
-use Rattle.decide.proofs.Whole.{run-goes-on, run-ends, going-most, ended-holds}
+use Rattle.decide.proofs.Running.{then-assumable, runs-on, runs-ended}
 use borrow.Author.Needs.{needs}
 use Rattle.decide.proofs.run_all.Statement.{statement}
 use Rattle.decide.proofs.run_all.Tie as tie
 
+-- where the function began
 abbrev start : tie.After-begin → tie.Start
 start b = search
 
-abbrev begun : tie.After-solved → tie.After-begin
-begun t = search
-
 begin-requires : tie.Need-begin-requires
-begin-requires c κs =
-    let s : tie.Start = search in
-    let noted = s .pre .1 .1 .1 in
-    record { held = s .pre .0; terms = s .pre .1 .0 .0; nums-fit = s .pre .1 .1 .0 .0; dens-fit = s .pre .1 .1 .0 .1; heads-size = noted .0; inputs-size = noted .1; sets-size = noted .2 }
+begin-requires c κs = let s : tie.Start = search in s .pre .begins
 
 enum-known-solved : tie.Need-enum-known-solved
 enum-known-solved c = search needs
@@ -24,9 +17,8 @@ enum-known-solved c = search needs
 assume-all-requires : tie.Need-assume-all-requires
 assume-all-requires c κs =
     let told : tie.After-solved = search in
-    let b = begun told in
-    let going = told .solved .given .1 in
-    record { prepared = going-holds going (b .begin .ensures .prepared); pairs = start b .pre .1 .0 .1; few-solved = going-most going (b .begin .ensures .counted) }
+    let b : tie.After-begin = search in
+    then-assumable (start b .pre) (b .begin .ensures) (told .solved .given .1)
 
 enum-known-answer : tie.Need-enum-known-answer
 enum-known-answer c = search needs
@@ -50,9 +42,8 @@ returns : tie.Need-returns
 returns c =
     let a : tie.After-assume-all = search in
     let told : tie.After-solved = search in
-    let begins = begun told .begin .ensures in
-    let assumed = a .assume-all .ensures in
-    (λ problem held. run-goes-on problem _ _ _ _ _ (begins .answers problem held) (told .solved .given .1) (assumed .answers problem held), (kept-then (begins .kept) (assumed .stays .kept), (while-going _ (assumed .stays .sound), assumed .sparse)))
+    let b : tie.After-begin = search in
+    runs-on (start b .pre) (b .begin .ensures) (told .solved .given .1) (a .assume-all .ensures)
 
 same-length-6 : tie.Need-same-length-6
 same-length-6 c = search needs
@@ -73,7 +64,7 @@ returns-2 : tie.Need-returns-2
 returns-2 c =
     let told : tie.After-answer = search in
     let b : tie.After-begin = search in
-    (λ problem held. run-ends problem _ _ _ (b .begin .ensures .answers problem held) (told .answer .given .1), (b .begin .ensures .kept, (ended-holds _ _, ended-holds _ _)))
+    runs-ended (start b .pre) (b .begin .ensures) (told .answer .given .1)
 
 pub run-all-spec : {M : Type 1} → statement M
 run-all-spec =

@@ -1,5 +1,5 @@
 -- `run_finish::cleared` meets its contract. Assumes nothing.
-use Rattle.run_finish.proofs.Left.{zeros-left}
+use Rattle.run_finish.proofs.Left.{clears}
 use borrow.Author.Needs.{needs}
 use Rattle.run_finish.proofs.cleared.Statement.{statement}
 use Rattle.run_finish.proofs.cleared.Tie as tie
@@ -17,7 +17,7 @@ same-length-2 : tie.Need-same-length-2
 same-length-2 c = search needs
 
 returns : tie.Need-returns
-returns c = zeros-left (c .before .before .before .before .fill .ensures) (c .before .fill2 .ensures) _
+returns c = search clears
 
 pub cleared-spec : {M : Type 1} → statement M
 cleared-spec = tie.close (tie.spec fill-requires fill-requires-2 same-length same-length-2 returns)

@@ -1,23 +1,33 @@
 -- `run_finish::ones_from` meets its contract: the fills of the rows are one fill. Assumes nothing.
 use Rattle.run_fill.specs.Contract.{Filled}
 use Rattle.run_fill.proofs.Filling.{filling-starts, fills-join}
+use Rattle.rules_run.specs.Row.{TERMS, COLUMNS, PLACES}
 use native.Mathlib.Omega.{arith}
 use mathlib.Core.Path.{_≡_}
-use Prim.Native.Nat.{_+_, _-_, _*_, _≤_}
-use lib.IntN.{pos}
+use mathlib.Core.List.{List}
+use Prim.Native.Nat.{ℕ, _+_, _-_, _*_, _≤_}
+use lib.IntN.{ℤ, pos}
 use borrow.Author.Needs.{needs}
 use Rattle.run_finish.proofs.ones_from.Statement.{statement}
 use Rattle.run_finish.proofs.ones_from.Tie as tie
 
 -- The rows from n up to t hold 1.
+record Ones (n t : ℕ) (before now : List ℤ) : Type 0 where
+  from : n ≤ t
+  most : t ≤ TERMS
+  filled : Filled (COLUMNS * n) (COLUMNS * t) (pos 1) before now
+
 abbrev Inv-loop : tie.InvT-loop
-Inv-loop dens₀ n t₀ dens t = (n ≤ t) × (t ≤ 64) × Filled (65 * n) (65 * t) (pos 1) dens₀ dens
+Inv-loop dens₀ n t₀ dens t = Ones n t dens₀ dens
 
 abbrev μ-loop : tie.MeasureT-loop
-μ-loop dens₀ n t₀ dens t = 64 - t
+μ-loop dens₀ n t₀ dens t = TERMS - t
+
+abbrev Head : Type 0
+Head = tie.At-loop Inv-loop μ-loop
 
 loop-holds : tie.Need-loop-holds Inv-loop μ-loop
-loop-holds c = (search needs, search needs, filling-starts _ _ _)
+loop-holds c = let s : tie.Start Inv-loop μ-loop = search in record { from = search needs; most = s .pre .few; filled = filling-starts _ _ _ }
 
 mul-fill : tie.Need-mul-fill Inv-loop μ-loop
 mul-fill c = search needs
@@ -30,8 +40,9 @@ add-fill c = search needs
 
 fill-requires : tie.Need-fill-requires Inv-loop μ-loop
 fill-requires c κs =
-    let l = c .before .before in
-    omega (arith, l .loop .inv .2 .same-length, c .before .loop-test, l .before .pre)
+    let s : tie.Start Inv-loop μ-loop = search in
+    let l : Head = search in
+    omega (arith, l .loop .inv .filled .same-length, s .pre .fits)
 
 add-t : tie.Need-add-t Inv-loop μ-loop
 add-t c = search needs
@@ -41,21 +52,23 @@ loop-less c = search needs
 
 loop-again : tie.Need-loop-again Inv-loop μ-loop
 loop-again c =
-    let filled = c .before in
-    let l = filled .before .before .before in
-    let n = l .before .args .n in
+    let filled : tie.After-fill Inv-loop μ-loop = search in
+    let l : Head = search in
+    let s : tie.Start Inv-loop μ-loop = search in
+    let n = s .args .n in
     let t = l .loop .t in
-    let next : 65 * t + 65 ≡ 65 * (t + 1) = omega arith in
-    (search needs, search needs, rw next at (fills-join (65 * n) (65 * t) (65 * t + 65) (omega arith) (omega arith) (l .loop .inv .2) (filled .fill .ensures)))
+    let next : COLUMNS * t + COLUMNS ≡ COLUMNS * (t + 1) = omega arith in
+    let before = l .loop .inv in
+    record { from = search needs; most = search needs; filled = rw next at (fills-join (COLUMNS * n) (COLUMNS * t) (COLUMNS * t + COLUMNS) (omega (arith, before .from)) (omega arith) (before .filled) (filled .fill .ensures)) }
 
 same-length : tie.Need-same-length Inv-loop μ-loop
 same-length c = search needs
 
 returns : tie.Need-returns Inv-loop μ-loop
 returns c =
-    let l = c .before in
-    let over : 65 * l .loop .t ≡ 4160 = omega arith in
-    rw over at (l .loop .inv .2)
+    let l : Head = search in
+    let over : COLUMNS * l .loop .t ≡ PLACES = omega (arith, l .loop .inv .most) in
+    rw over at (l .loop .inv .filled)
 
 pub ones-from-spec : {M : Type 1} → statement M
 ones-from-spec =

@@ -1,13 +1,15 @@
 -- `run_finish::with_rows` meets its contract. Assumes nothing.
-use Rattle.rules_run.specs.Run.{judged}
-use Rattle.run_finish.proofs.Left.{rows-left}
+use Rattle.run_finish.proofs.Left.{finishes-entailed, finishes-not-entailed}
 use native.Mathlib.Omega.{arith}
 use borrow.Author.Needs.{needs}
 use Rattle.run_finish.proofs.with_rows.Statement.{statement}
 use Rattle.run_finish.proofs.with_rows.Tie as tie
 
 same-row-requires : tie.Need-same-row-requires
-same-row-requires c κs = search needs
+same-row-requires c κs =
+    let s : tie.Start = search in
+    let ready = s .pre in
+    ((ready .left-below, ready .right-below, ready .rows .few), ((ready .rows .nums-fit, ready .rows .dens-fit, omega (arith, ready .rows .size)), (ready .rows .sound, ready .rows .sparse)))
 
 mul-fill : tie.Need-mul-fill
 mul-fill c = search needs
@@ -25,11 +27,7 @@ same-length-2 : tie.Need-same-length-2
 same-length-2 c = search needs
 
 returns : tie.Need-returns
-unfolding judged
-returns c =
-    let start = c .before .before .before .before .before .before .before .before .before .before .before in
-    let test = c .before .before .before .before .before .before .before .same-row in
-    rw (← (test .ensures), c .if1 .taken) (rows-left _ _ _ (start .pre .1 .1 .0) (start .pre .0 .0) (c .before .before .before .before .before .fill .ensures) (c .before .before .ones-from .ensures) _)
+returns c = search finishes-entailed
 
 same-length-3 : tie.Need-same-length-3
 same-length-3 c = search needs
@@ -38,11 +36,7 @@ same-length-4 : tie.Need-same-length-4
 same-length-4 c = search needs
 
 returns-2 : tie.Need-returns-2
-unfolding judged
-returns-2 c =
-    let start = c .before .before .before .before .before .before .before .before .before .before .before in
-    let test = c .before .before .before .before .before .before .before .same-row in
-    rw (← (test .ensures), c .if1 .left) (rows-left _ _ _ (start .pre .1 .1 .0) (start .pre .0 .0) (c .before .before .before .before .before .fill .ensures) (c .before .before .ones-from .ensures) _)
+returns-2 c = search finishes-not-entailed
 
 pub with-rows-spec : {M : Type 1} → statement M
 with-rows-spec =

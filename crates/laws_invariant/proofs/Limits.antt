@@ -1,40 +1,39 @@
 -- The run leaves every fraction of its table within the limits.
--- Main results: `Limited`, `run-limited`. Assume nothing.
+-- Main definition: `Limited`. Main result: `run-limited`. Assume nothing.
 use mathlib.Core.Path.{_≡_, refl}
 use mathlib.Core.Bool.{Bool, true, false, cond}
 use mathlib.Core.List.{List, [], _∷_, _++_}
 use mathlib.Core.Option.{Option, some, none}
-use Prim.Native.Nat.{ℕ, zero, suc, _<_}
+use Prim.Native.Nat.{ℕ, zero, suc, _+_, _*_, _<_}
 use native.Mathlib.Decide.{decLt, ℕ-discrete}
-use native.Mathlib.Nat.{zero-add, div-le-self}
+use native.Mathlib.Nat.{zero-add}
 use native.Mathlib.Omega.{arith}
 use lib.Dec.{eqb}
 use lib.IntN.{natAbs}
 use lib.ListN.{length, length-append, List·getD-append}
 use lib.Seq.{getD-append-seam}
-use Rattle.whole.specs.Gcd.{gcd}
 use Rattle.fraction.specs.declared.Fraction.{Fraction}
 use Rattle.fraction.specs.Exact.{ℚ, whole, zeroℚ, oneℚ, value, eqℚ}
 use Rattle.fraction.specs.Limits.{limit, within, tested, plus, minus, times}
 use Rattle.fraction.specs.Made.{Made, made, stopped, _>>=_}
 use Rattle.fraction.proofs.Answers.{Answers, if-made, if-stopped, answers-made, answers-with, answers-bind, answers-because, answers-tab}
-use Rattle.fraction.proofs.Bounded.{tested-made, within-limits}
+use Rattle.fraction.proofs.Bounded.{tested-made, frac-within}
 use Rattle.fraction.proofs.Making.{tab-length, tab-member}
-use Rattle.fraction_reduce.proofs.Lowest.{frac-size, frac-den}
 use Rattle.rules_problem.specs.declared.Kind.{Kind}
 use Rattle.rules_problem.specs.declared.Kind.the-variants.{Variable, Constant, Gain, Sum, Difference, Lookup1, Lookup2, Lookup3}
 use Rattle.rules_problem.specs.declared.Term.{Term}
 use Rattle.rules_problem.specs.Lookup.{kindAt}
+use Rattle.rules_problem.specs.Record.{Fields, scaled}
 use Rattle.rules_problem.specs.Problem.{Pair, Problem, decoded}
 use Rattle.rules_problem.proofs.Holding.{terms-count, term-there}
-use Rattle.rules_run.specs.Row.{Row, Table, TERMS, COLUMNS, constant, column, rowOf, cell, row}
+use Rattle.rules_problem.proofs.Recorded.{Recorded, variable, constant, gain, sum, difference, lookup1, lookup2, lookup3, term-recorded}
+use Rattle.rules_problem.proofs.Widths.{Small, scaled-small}
+use Rattle.rules_run.specs.Row.{Row, Table, TERMS, COLUMNS, constant as constantColumn, column, rowOf, cell, row}
 use Rattle.rules_run.specs.Build.{alone, builtColumn, built}
 use Rattle.rules_run.specs.Merge.{State, Stop, contradiction, outside, pivot, foldedColumn, folded, solve, settle, merge}
 use Rattle.rules_run.specs.Close.{due, closeFor, close}
-use Rattle.rules_run.specs.Run.{ends, assume, begin, run}
+use Rattle.rules_run.specs.Run.{Ranking, ends, assume, begin, run}
 use Rattle.laws_invariant.proofs.Steps.{row-made, cell-past}
-use Rattle.run_build_row.specs.Buildable.{Written, Holding}
-use Rattle.run_build.proofs.Decoded.{term-buildable}
 
 -- each fraction of a row is within the limits,
 pub record LimitedRow (r : Row) : Type 0 where
@@ -72,15 +71,31 @@ alone-limited only c q inside = by (eqb c only)
     by false = zero-limited
 
 -- "mantissa 16 (..), shift 4": a constant lies within the limits, in lowest terms too.
-constant-limited : (f : Fraction) → Written f → within (value f) ≡ true
+small-limited : (f : Fraction) → Small f → within (value f) ≡ true
 unfolding value limit
-constant-limited f written =
-    let n = natAbs (f .num) in
-    let d = natAbs (f .den) in
-    within-limits (value f) .1 (
-      omega (arith, frac-size (f .num) d (written .least), div-le-self n (gcd n d), written .above),
-      omega (arith, frac-den (f .num) d (written .least), div-le-self d (gcd n d), written .below),
-    )
+small-limited f small = frac-within (f .num) (natAbs (f .den)) (small .least) (omega (arith, small .above)) (omega (arith, small .below))
+
+-- the constant of a term, if it is one, lies within the limits
+ConstantLimited : Kind → Type 0
+ConstantLimited (Constant held) = within (value held) ≡ true
+ConstantLimited (Variable symbol) = Unit
+ConstantLimited (Gain factor input) = Unit
+ConstantLimited (Sum left right) = Unit
+ConstantLimited (Difference left right) = Unit
+ConstantLimited (Lookup1 symbol input) = Unit
+ConstantLimited (Lookup2 symbol first second) = Unit
+ConstantLimited (Lookup3 symbol first second third) = Unit
+
+kind-limited : {own : ℕ} {f : Fields} {kind : Kind} → Small (scaled f) → Recorded own f kind → ConstantLimited kind
+unfolding ConstantLimited
+kind-limited small variable = tt
+kind-limited small constant = small-limited _ small
+kind-limited small (gain below) = tt
+kind-limited small (sum below) = tt
+kind-limited small (difference below) = tt
+kind-limited small (lookup1 below) = tt
+kind-limited small (lookup2 below) = tt
+kind-limited small (lookup3 below) = tt
 
 -- What is tested lies within the limits.
 tested-limited : (q : ℚ) → Makes (λ c. within c ≡ true) (tested q)
@@ -95,10 +110,10 @@ unfolding row
 row-limited {g} all = answers-with (answers-tab all COLUMNS 0) (λ r h. record { each = λ c below. answers-made (all c) (row-made g r h c below) })
 
 -- Step 1 of the run.
-column-limited : (table : Table) (own : ℕ) (kind : Kind) → Holding Written kind → (c : ℕ) → Makes (λ q. within q ≡ true) (builtColumn table own kind c)
-unfolding builtColumn times plus minus Holding
+column-limited : (table : Table) (own : ℕ) (kind : Kind) → ConstantLimited kind → (c : ℕ) → Makes (λ q. within q ≡ true) (builtColumn table own kind c)
+unfolding builtColumn times plus minus ConstantLimited
 column-limited table own (Variable symbol) held c = if-made (alone-limited own c oneℚ one-limited)
-column-limited table own (Constant fraction) held c = if-made (alone-limited constant c _ (constant-limited fraction held))
+column-limited table own (Constant fraction) held c = if-made (alone-limited constantColumn c _ held)
 column-limited table own (Gain factor input) held c = tested-limited _
 column-limited table own (Sum left right) held c = tested-limited _
 column-limited table own (Difference left right) held c = tested-limited _
@@ -115,7 +130,7 @@ one-more table r before last = record { each = λ t c below. by t c below (decLt
     by t c below (no late) (yes seam) = rw (seam, getD-append-seam table r [] []) (last .each c below)
     by t c below (no late) (no past) = rw (cell-past (table ++ r ∷ []) t c (simp length-append (omega arith))) zero-limited
 
-built-limited : (terms : List Term) (table : Table) → ((t : ℕ) → t < length terms → Holding Written (kindAt terms t)) → Limited table → Makes Limited (built terms table)
+built-limited : (terms : List Term) (table : Table) → ((t : ℕ) → t < length terms → ConstantLimited (kindAt terms t)) → Limited table → Makes Limited (built terms table)
 unfolding built kindAt
 built-limited [] table held before = if-made before
 built-limited (term ∷ terms) table held before =
@@ -145,7 +160,7 @@ folded-limited p form table = answers-with (answers-tab (λ t. row-limited (fold
 module _ (rank : ℕ → ℕ) where
   settle-limited : (d : Row) (state : State) → Limited (state .table) → (o : Option ℕ) → MakesLimited (settle d state o)
   unfolding settle solve
-  settle-limited d state before none = by (eqℚ (column d constant) zeroℚ)
+  settle-limited d state before none = by (eqℚ (column d constantColumn) zeroℚ)
     where
       by : (b : Bool) → MakesLimited (cond b (made state) (stopped contradiction))
       by true = if-made before
@@ -178,21 +193,25 @@ module _ (rank : ℕ → ℕ) where
       (answers-because (ends place) (answers-bind (merge-limited (pair .left) (pair .right) state before) (close-limited terms (suc (length terms)))) (λ why any. tt))
       (assume-limited terms (suc place) pairs)
 
-  -- A run of a problem that was decoded leaves a table within the limits.
-  pub run-limited : (bytes : List ℕ) (problem : Problem) → decoded bytes ≡ made problem → (state : State) → run rank problem ≡ made state → Limited (state .table)
-  unfolding run begin close kindAt
-  run-limited bytes problem read state h = answers-made whole-run h
-    where
-      held : (t : ℕ) → t < length (problem .terms) → Holding Written (kindAt (problem .terms) t)
-      held t below = term-buildable bytes t _ (term-there bytes problem read t (omega (arith, terms-count bytes problem read)) _) .fraction
+-- A run of a problem that was decoded leaves a table within the limits.
+pub run-limited : (ranking : Ranking) (bytes : List ℕ) (problem : Problem) → decoded bytes ≡ made problem → (state : State) → run ranking problem ≡ made state → Limited (state .table)
+unfolding run begin close kindAt
+run-limited ranking bytes problem read state h = answers-made whole-run h
+  where
+    terms : List Term
+    terms = problem .terms
 
-      empty : Limited []
-      empty = record { each = λ t c below. rw (cell-past [] t c (omega arith)) zero-limited }
+    held : (t : ℕ) → t < length terms → ConstantLimited (kindAt terms t)
+    held t below =
+        kind-limited (scaled-small bytes (32 + 64 * t)) (term-recorded bytes t _ (term-there bytes problem read t (omega (arith, terms-count bytes problem read)) _))
 
-      whole-run : MakesLimited (run rank problem)
-      whole-run =
-          answers-bind
-          (answers-because (ends 0)
-          (answers-bind (answers-because outside (built-limited (problem .terms) [] held empty) (λ number any. tt)) (λ table before. close-limited (problem .terms) (suc (length (problem .terms))) _ before))
-          (λ why any. tt))
-          (assume-limited (problem .terms) 1 (problem .pairs))
+    empty : Limited []
+    empty = record { each = λ t c below. rw (cell-past [] t c (omega arith)) zero-limited }
+
+    whole-run : MakesLimited (run ranking problem)
+    whole-run =
+        answers-bind
+        (answers-because (ends 0)
+        (answers-bind (answers-because outside (built-limited terms [] held empty) (λ number any. tt)) (λ table before. close-limited (ranking terms) terms (suc (length terms)) _ before))
+        (λ why any. tt))
+        (assume-limited (ranking terms) terms 1 (problem .pairs))

@@ -3,11 +3,10 @@
 use mathlib.Core.Bool.{Bool, true, _&&_, cond}
 use mathlib.Core.List.{List, [], _∷_}
 use mathlib.Core.Option.{Option, some, none}
-use Prim.Native.Nat.{ℕ, _+_, _^_}
+use Prim.Native.Nat.{ℕ, _+_}
 use lib.ListN.{getD}
 use lib.Dec.{eqb, ltb}
-use lib.IntN.{pos}
-use Rattle.fraction.specs.declared.Fraction.{Fraction}
+use Rattle.fraction.specs.declared.Scaled.{Scaled}
 use Rattle.rules_problem.specs.declared.Kind.{Kind}
 use Rattle.rules_problem.specs.declared.Kind.the-variants.{Variable, Constant, Gain, Sum, Difference, Lookup1, Lookup2, Lookup3}
 use Rattle.rules_problem.specs.Bits.{field, signed16}
@@ -37,8 +36,8 @@ fieldsAt bytes p =
     }
 
 -- "mantissa / 2^shift"
-unfoldable pub scaled : Fields → Fraction
-scaled f = record { num = signed16 (f .mantissa); den = pos (2 ^ f .shift) }
+unfoldable pub scaled : Fields → Scaled
+scaled f = record { mantissa = signed16 (f .mantissa); shift = f .shift }
 
 unfoldable pub every : (ℕ → Bool) → List ℕ → Bool
 every test [] = true

@@ -1,3 +1,4 @@
 pub mod Exact
+pub mod InRecord
 pub mod Limits
 pub mod Made

@@ -1,5 +1,5 @@
 -- What the functions that make a fraction ask for, and what they ensure.
--- Main definitions: `InRecord`, `Reducible`, `Limited`, `InLowest`, `WithSign`, `Bottoms`. Assume nothing.
+-- Main definitions: `Reducible`, `Limited`, `InLowest`, `WithSign`, `Bottoms`. Assume nothing.
 use mathlib.Core.Path.{_≡_}
 use Prim.Native.Nat.{ℕ, _*_, _/_, _^_, _<_, _≤_}
 use lib.IntN.{ℤ, pos, natAbs}
@@ -7,13 +7,7 @@ use Rattle.whole.specs.Gcd.{gcd}
 use Rattle.whole.specs.Signed.{signed}
 use Rattle.fraction.specs.Limits.{limit}
 use Rattle.fraction.specs.declared.Fraction.{Fraction}
-use Rattle.fraction.specs.declared.Scaled.{Scaled}
 use Rattle.fraction_reduce.specs.declared.reduce.Terms.{Terms}
-
--- 01: "mantissa 16 (signed, two's complement), shift 4" bits
-pub record InRecord (s : Scaled) : Type 0 where
-  pub mantissa : natAbs (s .mantissa) ≤ 32768
-  pub shift : s .shift < 16
 
 -- A whole number over another that is not 0, to be reduced.
 pub record Reducible (n : ℤ) (d : ℕ) : Type 0 where

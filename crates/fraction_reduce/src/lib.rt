@@ -12,7 +12,8 @@ use whole_size::size_wide;
 ghost use mathlib.Core.Path.{_≡_};
 ghost use Prim.Native.Nat.{_<_, _^_};
 ghost use Rattle.fraction.specs.Exact.{worth};
-ghost use Rattle.fraction_reduce.specs.Contract.{InRecord, Bottoms};
+ghost use Rattle.fraction.specs.InRecord.{InRecord};
+ghost use Rattle.fraction_reduce.specs.Contract.{Bottoms};
 ghost use Rattle.fraction_reduce.specs.Values.{Good, Stands};
 
 // What an operation answers: the fraction made, or the number of its refusal.

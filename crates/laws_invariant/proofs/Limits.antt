@@ -4,16 +4,17 @@ use mathlib.Core.Path.{_≡_, refl}
 use mathlib.Core.Bool.{Bool, true, false, cond}
 use mathlib.Core.List.{List, [], _∷_, _++_}
 use mathlib.Core.Option.{Option, some, none}
-use Prim.Native.Nat.{ℕ, zero, suc, _+_, _*_, _<_}
+use Prim.Native.Nat.{ℕ, zero, suc, _+_, _*_, _^_, _<_}
 use native.Mathlib.Decide.{decLt, ℕ-discrete}
 use native.Mathlib.Nat.{zero-add}
 use native.Mathlib.Omega.{arith}
 use lib.Dec.{eqb}
-use lib.IntN.{natAbs}
+use lib.Pow.{pow-lt, pow-pos}
 use lib.ListN.{length, length-append, List·getD-append}
 use lib.Seq.{getD-append-seam}
-use Rattle.fraction.specs.declared.Fraction.{Fraction}
-use Rattle.fraction.specs.Exact.{ℚ, whole, zeroℚ, oneℚ, value, eqℚ}
+use Rattle.fraction.specs.declared.Scaled.{Scaled}
+use Rattle.fraction.specs.InRecord.{InRecord}
+use Rattle.fraction.specs.Exact.{ℚ, whole, zeroℚ, oneℚ, worth, eqℚ}
 use Rattle.fraction.specs.Limits.{limit, within, tested, plus, minus, times}
 use Rattle.fraction.specs.Made.{Made, made, stopped, _>>=_}
 use Rattle.fraction.proofs.Answers.{Answers, if-made, if-stopped, answers-made, answers-with, answers-bind, answers-because, answers-tab}
@@ -27,7 +28,7 @@ use Rattle.rules_problem.specs.Record.{Fields, scaled}
 use Rattle.rules_problem.specs.Problem.{Pair, Problem, decoded}
 use Rattle.rules_problem.proofs.Holding.{terms-count, term-there}
 use Rattle.rules_problem.proofs.Recorded.{Recorded, variable, constant, gain, sum, difference, lookup1, lookup2, lookup3, term-recorded}
-use Rattle.rules_problem.proofs.Widths.{Small, scaled-small}
+use Rattle.rules_problem.proofs.Widths.{scaled-in-record}
 use Rattle.rules_run.specs.Row.{Row, Table, TERMS, COLUMNS, constant as constantColumn, column, rowOf, cell, row}
 use Rattle.rules_run.specs.Build.{alone, builtColumn, built}
 use Rattle.rules_run.specs.Merge.{State, Stop, contradiction, outside, pivot, foldedColumn, folded, solve, settle, merge}
@@ -71,13 +72,15 @@ alone-limited only c q inside = by (eqb c only)
     by false = zero-limited
 
 -- "mantissa 16 (..), shift 4": a constant lies within the limits, in lowest terms too.
-small-limited : (f : Fraction) → Small f → within (value f) ≡ true
-unfolding value limit
-small-limited f small = frac-within (f .num) (natAbs (f .den)) (small .least) (omega (arith, small .above)) (omega (arith, small .below))
+recorded-limited : (s : Scaled) → InRecord s → within (worth s) ≡ true
+unfolding worth limit
+recorded-limited s recorded =
+    let below : 2 ^ s .shift < 2 ^ 16 = pow-lt {j = 16} (recorded .shift) in
+    frac-within (s .mantissa) (2 ^ s .shift) (pow-pos (s .shift)) (omega (arith, recorded .mantissa)) (omega arith)
 
 -- the constant of a term, if it is one, lies within the limits
 ConstantLimited : Kind → Type 0
-ConstantLimited (Constant held) = within (value held) ≡ true
+ConstantLimited (Constant held) = within (worth held) ≡ true
 ConstantLimited (Variable symbol) = Unit
 ConstantLimited (Gain factor input) = Unit
 ConstantLimited (Sum left right) = Unit
@@ -86,16 +89,16 @@ ConstantLimited (Lookup1 symbol input) = Unit
 ConstantLimited (Lookup2 symbol first second) = Unit
 ConstantLimited (Lookup3 symbol first second third) = Unit
 
-kind-limited : {own : ℕ} {f : Fields} {kind : Kind} → Small (scaled f) → Recorded own f kind → ConstantLimited kind
+kind-limited : {own : ℕ} {f : Fields} {kind : Kind} → InRecord (scaled f) → Recorded own f kind → ConstantLimited kind
 unfolding ConstantLimited
-kind-limited small variable = tt
-kind-limited small constant = small-limited _ small
-kind-limited small (gain below) = tt
-kind-limited small (sum below) = tt
-kind-limited small (difference below) = tt
-kind-limited small (lookup1 below) = tt
-kind-limited small (lookup2 below) = tt
-kind-limited small (lookup3 below) = tt
+kind-limited recorded variable = tt
+kind-limited recorded constant = recorded-limited _ recorded
+kind-limited recorded (gain below) = tt
+kind-limited recorded (sum below) = tt
+kind-limited recorded (difference below) = tt
+kind-limited recorded (lookup1 below) = tt
+kind-limited recorded (lookup2 below) = tt
+kind-limited recorded (lookup3 below) = tt
 
 -- What is tested lies within the limits.
 tested-limited : (q : ℚ) → Makes (λ c. within c ≡ true) (tested q)
@@ -203,7 +206,7 @@ run-limited ranking bytes problem read state h = answers-made whole-run h
 
     held : (t : ℕ) → t < length terms → ConstantLimited (kindAt terms t)
     held t below =
-        kind-limited (scaled-small bytes (32 + 64 * t)) (term-recorded bytes t _ (term-there bytes problem read t (omega (arith, terms-count bytes problem read)) _))
+        kind-limited (scaled-in-record bytes (32 + 64 * t)) (term-recorded bytes t _ (term-there bytes problem read t (omega (arith, terms-count bytes problem read)) _))
 
     empty : Limited []
     empty = record { each = λ t c below. rw (cell-past [] t c (omega arith)) zero-limited }

@@ -1,5 +1,5 @@
 -- Laws of a field of a bit-packed byte string.
--- Main results: `field-below`, `field-number`, `field-window`, `cut-field`. Assume nothing.
+-- Main results: `field-number`, `field-window`, `cut-field`. Assume nothing.
 use mathlib.Core.Path.{_≡_, sym, ap, ap₂, _∙_}
 use mathlib.Core.List.{List}
 use Prim.Native.Nat.{ℕ, zero, suc, _+_, _-_, _*_, _/_, _%_, _^_, _<_, _≤_}
@@ -11,16 +11,10 @@ use lib.Arith.{digits-lt}
 use lib.Pow.{mod-pow-add, mod-mod-pow, shr-shr, shl-exact, field as part, high, low}
 use lib.ListN.{getD}
 use Rattle.rules_problem.specs.Bits.{bitAt, field}
+use Rattle.rules_problem.proofs.Widths.{field-below}
 use Rattle.record_cursor.specs.declared.Piece.{Piece}
 use Rattle.record_cursor.specs.Contract.{PieceCut}
 use Rattle.record_cursor.specs.Taken.{numberAt}
-
--- A field of `width` bits is below 2 ^ width.
-pub field-below : (bytes : List ℕ) (width p : ℕ) → field bytes p width < 2 ^ width
-unfolding field bitAt
-field-below bytes zero p = omega arith
-field-below bytes (suc width) p =
-    rw (pow-suc, mul-comm (2 ^ width) 2) (digits-lt (mod-lt _ (omega arith)) (field-below bytes width (p + 1)))
 
 -- A bit of a byte is the same bit of every number that ends in the byte.
 bit-of-last : (rest byte e : ℕ) → byte < 256 → e < 8 → (rest * 256 + byte) / 2 ^ e % 2 ≡ byte / 2 ^ e % 2

@@ -12,7 +12,7 @@ use Rattle.record_cursor.specs.declared.Field.the-variants.{Got, Ended}
 use Rattle.record_cursor.specs.declared.Piece.{Piece}
 use Rattle.record_cursor.specs.Contract.{Readable, PieceRead}
 use Rattle.record_cursor.specs.Taken.{takenAt}
-use Rattle.record_cursor.proofs.Bits.{field-below}
+use Rattle.rules_problem.proofs.Widths.{field-below}
 
 module _ {bytes : List ℕ} {at width : ℕ} (readable : Readable bytes at width) where
   taken-there : takenAt bytes at width ≡ Got (field bytes at width) (record { at = at + width })

@@ -1,17 +1,16 @@
 -- How great the numbers of a record's fields are.
--- Main results: `field-below`, `signed16-within`, `scaled-small`. Assume nothing.
+-- Main results: `field-below`, `signed16-within`, `scaled-in-record`. Assume nothing.
 use mathlib.Core.Path.{_≡_, refl}
 use mathlib.Core.Bool.{Bool, true, false, cond}
 use mathlib.Core.List.{List}
 use Prim.Native.Nat.{ℕ, zero, suc, _+_, _-_, _^_, _≤_, _<_}
-use native.Mathlib.Nat.{mod-lt, pow-suc, mul-comm, pow-le-pow-right}
+use native.Mathlib.Nat.{mod-lt, pow-suc, mul-comm}
 use native.Mathlib.Omega.{arith}
 use lib.Arith.{digits-lt}
-use lib.Pow.{pow-pos}
 use lib.Dec.{ltb}
 use borrow.Author.Tests.{ltb-true, ltb-false}
 use lib.IntN.{pos, negsuc, natAbs, _-ℤ_}
-use Rattle.fraction.specs.declared.Fraction.{Fraction}
+use Rattle.fraction.specs.InRecord.{InRecord}
 use Rattle.rules_problem.specs.Bits.{bitAt, field, signed16}
 use Rattle.rules_problem.specs.Record.{fieldsAt, scaled}
 
@@ -37,18 +36,7 @@ signed16-within x h = go (ltb x 32768) refl
         let least = ltb-false x 32768 e in
         size-either (ltb x 65536) (65536 - suc x) (x - 65536) 32768 (omega arith) (omega arith)
 
--- mantissa / 2^shift as a record has it, not in lowest terms: 16 bits with a sign over a power of 2 up to 2^15
-pub record Small (f : Fraction) : Type 0 where
-  pub least : 1 ≤ natAbs (f .den)
-  pub below : natAbs (f .den) ≤ 32768
-  pub above : natAbs (f .num) ≤ 32768
-
--- The fraction of every record is small.
-pub scaled-small : (bytes : List ℕ) (p : ℕ) → Small (scaled (fieldsAt bytes p))
+-- The fraction of every record is one that a record can hold.
+pub scaled-in-record : (bytes : List ℕ) (p : ℕ) → InRecord (scaled (fieldsAt bytes p))
 unfolding scaled fieldsAt
-scaled-small bytes p =
-    let shift = field-below bytes 4 (p + 52) in
-    let mantissa = field-below bytes 16 (p + 36) in
-    let few : field bytes (p + 52) 4 ≤ 15 = omega arith in
-    let most : 2 ^ field bytes (p + 52) 4 ≤ 2 ^ 15 = pow-le-pow-right {n = 2} (omega arith) few in
-    record { least = pow-pos (field bytes (p + 52) 4); below = most; above = signed16-within (field bytes (p + 36) 16) mantissa }
+scaled-in-record bytes p = record { mantissa = signed16-within (field bytes (p + 36) 16) (field-below bytes 16 (p + 36)); shift = field-below bytes 4 (p + 52) }

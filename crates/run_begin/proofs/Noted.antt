@@ -14,7 +14,7 @@ use Rattle.rules_problem.specs.Lookup.{callOf, inputsOf, kindAt}
 use Rattle.rules_problem.specs.Record.{Fields, fieldsAt}
 use Rattle.rules_problem.proofs.Recorded.{Recorded, variable, constant, gain, sum, difference, lookup1, lookup2, lookup3, term-recorded}
 use Rattle.rules_problem.specs.Problem.{Problem, decoded}
-use Rattle.record_cursor.proofs.Bits.{field-below}
+use Rattle.rules_problem.proofs.Widths.{field-below}
 use Rattle.rules_problem.proofs.Holding.{terms-count, term-there}
 use Rattle.laws_valuation.specs.Written.{allInputs}
 use Rattle.laws_valuation.proofs.Decoded.{decoded-sound}

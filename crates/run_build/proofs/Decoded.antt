@@ -10,7 +10,7 @@ use lib.Dec.{ltb}
 use borrow.Author.Tests.{ltb-true, ltb-false}
 use lib.IntN.{pos, negsuc, natAbs, _-ℤ_}
 use Rattle.fraction.specs.Made.{made}
-use Rattle.fraction_reduce.specs.Contract.{InRecord}
+use Rattle.fraction.specs.InRecord.{InRecord}
 use Rattle.rules_problem.specs.declared.Kind.{Kind}
 use Rattle.rules_problem.specs.declared.Kind.the-variants.{Variable}
 use Rattle.rules_problem.specs.declared.Term.{Term}
@@ -19,28 +19,9 @@ use Rattle.rules_problem.specs.Lookup.{kindAt}
 use Rattle.rules_problem.specs.Record.{Fields, fieldsAt, scaled}
 use Rattle.rules_problem.proofs.Recorded.{EachBelow, Recorded, variable, constant, gain, sum, difference, lookup1, lookup2, lookup3, term-recorded}
 use Rattle.rules_problem.specs.Problem.{Problem, termAt, decoded}
-use Rattle.record_cursor.proofs.Bits.{field-below}
 use Rattle.rules_problem.proofs.Holding.{term-there}
+use Rattle.rules_problem.proofs.Widths.{scaled-in-record}
 use Rattle.run_build_row.specs.Buildable.{Holding, Below, Buildable}
-
-size-either : (t : Bool) (x y n : ℕ) → suc x ≤ n → y ≤ n → natAbs (cond t (negsuc x) (pos y)) ≤ n
-size-either true x y n h k = h
-size-either false x y n h k = k
-
--- a field of 16 bits stands for a number from -32,768 to 32,767
-signed16-within : (x : ℕ) → x < 65536 → natAbs (signed16 x) ≤ 32768
-unfolding signed16
-signed16-within x h = go (ltb x 32768) refl
-  where
-    go : (t : Bool) → ltb x 32768 ≡ t → natAbs (cond t (pos x) (pos x -ℤ pos 65536)) ≤ 32768
-    go true e = omega (arith, ltb-true x 32768 e)
-    go false e =
-        let least = ltb-false x 32768 e in
-        size-either (ltb x 65536) (65536 - suc x) (x - 65536) 32768 (omega arith) (omega arith)
-
-scaled-recorded : (f : Fields) → f .mantissa < 65536 → f .shift < 16 → InRecord (scaled f)
-unfolding scaled
-scaled-recorded f mantissa shift = record { mantissa = signed16-within (f .mantissa) mantissa; shift = shift }
 
 kind-buildable : {own : ℕ} {f : Fields} {kind : Kind} → InRecord (scaled f) → Recorded own f kind → Buildable own kind
 unfolding EachBelow Holding Below
@@ -55,10 +36,7 @@ kind-buildable recorded (lookup3 below) = record { inputs = (below .0, below .1 
 
 -- A term that is decoded can be built: its inputs stand below its own number, and its fraction is small.
 pub term-buildable : (bytes : List ℕ) (t : ℕ) (term : Term) → termAt bytes t ≡ made term → Buildable t (term .kind)
-unfolding fieldsAt
-term-buildable bytes t term h =
-    let f = fieldsAt bytes (32 + 64 * t) in
-    kind-buildable (scaled-recorded f (field-below bytes 16 (32 + 64 * t + 36)) (field-below bytes 4 (32 + 64 * t + 52))) (term-recorded bytes t term h)
+term-buildable bytes t term h = kind-buildable (scaled-in-record bytes (32 + 64 * t)) (term-recorded bytes t term h)
 
 -- What is read of a term is the term of the problem.
 pub kind-there : (bytes : List ℕ) (problem : Problem) → decoded bytes ≡ made problem → (t : ℕ) {term : Term} → t < field bytes 0 8 → made term ≡ termAt bytes t → kindAt (problem .terms) t ≡ term .kind

@@ -10,7 +10,7 @@ ghost use mathlib.Core.Path.{_≡_};
 ghost use Prim.Native.Nat.{ℕ};
 ghost use Rattle.set_members.specs.Sets.{holds};
 ghost use Rattle.fraction.specs.Exact.{value, oneℚ};
-ghost use Rattle.fraction_reduce.specs.Contract.{InRecord};
+ghost use Rattle.fraction.specs.InRecord.{InRecord};
 ghost use Rattle.fraction_reduce.specs.Values.{Answers};
 ghost use Rattle.run_table.specs.Lists.{lists, atEntry, atExit};
 ghost use Rattle.run_table.specs.Work.{lent, entered, leaving};

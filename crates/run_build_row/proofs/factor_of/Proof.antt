@@ -1,7 +1,7 @@
 -- `run_build_row::factor_of` meets its contract: only a constant and a gain hold a fraction. Assumes nothing.
 use Rattle.run_build_row.proofs.Lowering.{constant-factor, gain-factor, no-factor}
 use Rattle.run_build_row.proofs.Inputs.{constant-holds, gain-holds}
-use Rattle.fraction_reduce.specs.Contract.{InRecord}
+use Rattle.fraction.specs.InRecord.{InRecord}
 use borrow.Author.Needs.{needs}
 use Rattle.run_build_row.proofs.factor_of.Statement.{statement}
 use Rattle.run_build_row.proofs.factor_of.Tie as tie

@@ -1,20 +1,22 @@
 -- The first line written part by part: there is room for each, and what is written is the line.
 -- Main results: `said-fits`, `wrote-said`. Assume nothing.
 use mathlib.Core.List.{List, [], _∷_, _++_}
-use Prim.Native.Nat.{ℕ, _<_, _^_}
+use Prim.Native.Nat.{ℕ, _+_, _≤_, _<_, _^_}
 use native.Mathlib.Omega.{arith}
 use lib.ListN.{length, length-append}
 use Rattle.rules_listing.specs.Text.{ascii, decimal}
 use Rattle.list_text.specs.Wrote.{Fits, Wrote}
 use Rattle.list_text.proofs.Placing.{fits-first, fits-then, wrote-both}
 use Rattle.list_decimal.proofs.Decimal.{decimal-length}
-use Rattle.list_first_line.specs.Contract.{saidText, SaidFits}
+use Rattle.list_first_line.specs.Contract.{saidText, NUMBERS, SaidFits, SaidWritten}
 
 -- A number of 64 bits has at most twenty digits.
-pub said-fits : {word : List ℕ} (first second : ℕ) {place : ℕ} {before : List ℕ} → SaidFits word place before → first < 2 ^ 64 → second < 2 ^ 64 → Fits (saidText word first second) place before
+said-length : (word : List ℕ) (first second : ℕ) → first < 2 ^ 64 → second < 2 ^ 64 → length (saidText word first second) ≤ length word + NUMBERS
 unfolding ascii
-said-fits first second ready small small′ =
-    record { room = simp length-append (omega (arith, ready .room, decimal-length 19 first (omega arith), decimal-length 19 second (omega arith))) }
+said-length word first second small small′ = simp length-append (omega (arith, decimal-length 19 first (omega arith), decimal-length 19 second (omega arith)))
+
+pub said-fits : {word : List ℕ} (first second : ℕ) {place : ℕ} {before : List ℕ} → SaidFits word place before → first < 2 ^ 64 → second < 2 ^ 64 → Fits (saidText word first second) place before
+said-fits {word} first second ready small small′ = record { room = omega (arith, ready .room, said-length word first second small small′) }
 
 module _ (word : List ℕ) (first second : ℕ) {place : ℕ} {before : List ℕ} (fits : Fits (saidText word first second) place before) where
   to-second : Fits (word ++ decimal first ++ (32 ∷ []) ++ decimal second) place before
@@ -56,6 +58,8 @@ module _ (word : List ℕ) (first second : ℕ) {place : ℕ} {before : List ℕ
           unfolding ascii
           newline-fits = fits-then fits both
 
-          pub wrote-said : {after : List ℕ} {end : ℕ} → Wrote (10 ∷ []) p₄ b₄ after end → Wrote (saidText word first second) place before after end
+          pub wrote-said : first < 2 ^ 64 → second < 2 ^ 64 → {after : List ℕ} {end : ℕ} → Wrote (10 ∷ []) p₄ b₄ after end → SaidWritten word first second place before after end
           unfolding ascii
-          wrote-said newline = wrote-both fits both newline
+          wrote-said small small′ newline =
+              let line = wrote-both fits both newline in
+              record { wrote = line; short = omega (arith, said-length word first second small small′, line .reached) }

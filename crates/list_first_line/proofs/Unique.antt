@@ -8,4 +8,4 @@ use Rattle.list_first_line.proofs.put_first.Kinds.{ps, r}
 use Rattle.list_first_line.proofs.put_first.Reads.{Post}
 
 pub put-first-unique : Twice ps r Post λ κs a x y end end′. (now (end .0) ≡ now (end′ .0)) × (x ≡ y)
-put-first-unique κs a x y end end′ = wrote-unique _ _ _ _ _ _ _
+put-first-unique κs a x y end end′ first second = wrote-unique _ _ _ _ _ _ _ (first .wrote) (second .wrote)

@@ -1,6 +1,6 @@
 // The places of a row: whether each holds a fraction in lowest terms within the limits.
-use whole_gcd::greatest;
 use rules_problem::COLUMNS;
+use whole_gcd::greatest;
 use whole_size::size;
 ghost use mathlib.Core.Path.{_≡_};
 ghost use Rattle.rules_listing.specs.Listing.{isFraction, allFractions, placesOf};

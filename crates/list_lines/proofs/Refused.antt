@@ -11,12 +11,11 @@ use borrow.Author.Tests.{leb-true, lt-ltb, le-ltb, le-leb, lt-leb, not-true, not
 use Rattle.answer.specs.declared.Answer.{Answer}
 use Rattle.answer.specs.Refusals.{SPACE, ROW}
 use Rattle.rules_run.specs.Row.{TERMS, PLACES}
-use Rattle.rules_listing.specs.Line.{firstLine}
 use Rattle.rules_listing.specs.Listing.{allFractions, placesOf, heldLine, ROOM, listRow, listFirst}
 use Rattle.list_text.specs.Wrote.{Wrote}
 use Rattle.list_fractions.specs.Listable.{HoldRow}
 use Rattle.list_fractions.proofs.Fractions.{and-false}
-use Rattle.list_first_line.specs.Contract.{FirstFits}
+use Rattle.list_first_line.specs.Contract.{FirstFits, FirstWritten}
 use Rattle.list_row_line.specs.Contract.{RowFits}
 use Rattle.list_lines.specs.declared.Reached.the-variants.{At, Refused}
 use Rattle.list_lines.specs.Contract.{reachedOf, listedBy, ListsRow, ListsFirst}
@@ -92,6 +91,6 @@ module _ {place : ℕ} {before : List ℕ} {room : Bool} (is : room ≡ leb (pla
   pub first-ready : not room ≡ false → FirstFits place before
   first-ready fine = record { room = tells-room place (length before) is fine }
 
-pub first-listed : {answer : Answer} {place next : ℕ} {before after : List ℕ} → FirstFits place before → Wrote (firstLine answer) place before after next → ListsFirst answer place before after (At next)
+pub first-listed : {answer : Answer} {place next : ℕ} {before after : List ℕ} → FirstFits place before → FirstWritten answer place before after next → ListsFirst answer place before after (At next)
 unfolding listFirst listedBy reachedOf
-first-listed ready wrote = record { answers = rw (le-leb _ _ (ready .room), wrote .placed, wrote .reached) }
+first-listed ready line = record { answers = rw (le-leb _ _ (ready .room), line .wrote .placed, line .wrote .reached) }

@@ -1,5 +1,5 @@
 -- What writing the pieces of a row asks for, and the text of a fraction by its two sizes.
--- Main definitions: `overText`, `pieceOf`, `PieceFits`, `PIECES`, `PiecesFit`. Assumes nothing.
+-- Main definitions: `overText`, `pieceOf`, `PieceFits`, `piecesOf`, `PIECES`, `PiecesFit`. Assumes nothing.
 use mathlib.Core.Path.{_≡_}
 use mathlib.Core.Bool.{true, cond}
 use mathlib.Core.List.{List, [], _++_}
@@ -10,10 +10,10 @@ use lib.IntN.{ℤ, natAbs}
 use Rattle.fraction.specs.Exact.{frac}
 use Rattle.rules_run.specs.Row.{COLUMNS}
 use Rattle.rules_listing.specs.Text.{ascii, decimal}
-use Rattle.rules_listing.specs.Line.{piece}
+use Rattle.rules_listing.specs.Line.{piece, pieces}
 use Rattle.rules_listing.specs.Listing.{isFraction}
 use Rattle.list_text.specs.Wrote.{Fits}
-use Rattle.list_fractions.specs.Listable.{Listable}
+use Rattle.list_fractions.specs.Listable.{Listable, rowHeld}
 
 -- "the fraction (no denominator if 1)", of its two sizes
 unfoldable pub overText : (top bottom : ℕ) → List ℕ
@@ -27,6 +27,10 @@ pieceOf c num den = piece c (frac num (natAbs den))
 pub record PieceFits (c : ℕ) (num den : ℤ) (place : ℕ) (buffer : List ℕ) : Type 0 where
   pub sound : isFraction num den ≡ true
   pub fits : Fits (pieceOf c num den) place buffer
+
+-- the pieces of the row that the lists hold for term t, without the one piece `0`
+abbrev pub piecesOf : (nums dens : List ℤ) → (t : ℕ) → List ℕ
+piecesOf nums dens t = pieces COLUMNS (rowHeld t nums dens)
 
 -- room for the pieces of every row: 27 bytes a column
 abbrev pub PIECES : ℕ

@@ -1,16 +1,14 @@
 // The pieces of a row's line.
 use list_decimal::put_decimal;
+use list_text::put_byte;
 use rules_problem::COLUMNS;
 use rules_problem::TERMS;
 use whole_size::size;
-use list_text::put_byte;
 ghost use mathlib.Core.Path.{_≡_};
 ghost use mathlib.Core.List.{[], _∷_};
-ghost use Rattle.rules_run.specs.Row.{COLUMNS};
-ghost use Rattle.rules_listing.specs.Line.{signOf, termText, pieces};
+ghost use Rattle.rules_listing.specs.Line.{signOf, termText};
 ghost use Rattle.list_text.specs.Wrote.{Fits, Wrote};
-ghost use Rattle.list_fractions.specs.Listable.{rowHeld};
-ghost use Rattle.list_pieces.specs.Contract.{overText, pieceOf, PieceFits, PiecesFit};
+ghost use Rattle.list_pieces.specs.Contract.{overText, pieceOf, PieceFits, piecesOf, PiecesFit};
 
 // 01, The run: the column of the constant.
 const CONSTANT: usize = TERMS;
@@ -66,7 +64,7 @@ fn put_piece(buf: &mut [u8], at: usize, c: usize, num: i32, den: i32) -> usize
 // The pieces of row t, "columns rising", at a place; answers the place behind them.
 pub fn put_pieces(buf: &mut [u8], at: usize, nums: &[i32], dens: &[i32], t: usize) -> usize
     requires { ⌜ PiecesFit t (now nums) (now dens) at (now buf) ⌝ }
-    ensures { λ r. ⌜ Wrote (pieces COLUMNS (rowHeld t (now (nums .entry)) (now (dens .entry)))) at (now (buf .entry)) (now (buf .exit)) r ⌝ }
+    ensures { λ r. ⌜ Wrote (piecesOf (now (nums .entry)) (now (dens .entry)) t) at (now (buf .entry)) (now (buf .exit)) r ⌝ }
 {
     let base = COLUMNS * t;
     let mut next = at;

@@ -1,5 +1,5 @@
 -- Texts put into a buffer one after the other.
--- Main results: `put-at-then`, `wrote-nothing`, `wrote-byte`, `wrote-then`, `wrote-length`, `fits-then`, `wrote-both`, `begun-all`. Assume nothing.
+-- Main results: `take-put-at`, `put-at-then`, `wrote-nothing`, `wrote-byte`, `wrote-then`, `wrote-length`, `fits-then`, `wrote-both`, `begun-all`. Assume nothing.
 use mathlib.Core.Path.{_≡_, refl, sym, ap, _∙_}
 use mathlib.Core.List.{List, [], _∷_, _++_, append-nil, append-assoc}
 use Prim.Native.Nat.{ℕ, suc, _+_, _≤_, _<_}
@@ -16,7 +16,8 @@ module _ (place : ℕ) (text buffer : List ℕ) (within : place ≤ length buffe
   head-length : length (take place buffer ++ text) ≡ place + length text
   head-length = length-append (take place buffer) text ∙ ap (λ n. n + length text) (length-take-le place buffer within)
 
-  take-put-at : take (place + length text) (putAt place text buffer) ≡ take place buffer ++ text
+  -- Up to its end stand what stood before the place, and the text.
+  pub take-put-at : take (place + length text) (putAt place text buffer) ≡ take place buffer ++ text
   unfolding putAt
   take-put-at = take-at (take place buffer ++ text) _ _ head-length
 

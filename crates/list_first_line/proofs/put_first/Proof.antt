@@ -53,7 +53,7 @@ unfolding firstLine wordsOf said ascii
 returns c =
     let call : tie.After-put-said = search in
     let told : tie.After-answer = search in
-    rw (told .answer .given .1) (call .put-said .ensures)
+    record { wrote = rw (told .answer .given .1) (call .put-said .ensures .wrote); short = search needs }
 
 same-length-2 : tie.Need-same-length-2
 same-length-2 c = search needs
@@ -63,7 +63,7 @@ unfolding firstLine wordsOf said ascii
 returns-2 c =
     let call : tie.After-put-said2 = search in
     let told : tie.After-answer2 = search in
-    rw (told .answer2 .given .1) (call .put-said2 .ensures)
+    record { wrote = rw (told .answer2 .given .1) (call .put-said2 .ensures .wrote); short = search needs }
 
 same-length-3 : tie.Need-same-length-3
 same-length-3 c = search needs
@@ -73,7 +73,7 @@ unfolding firstLine wordsOf said ascii
 returns-3 c =
     let call : tie.After-put-said3 = search in
     let told : tie.After-answer3 = search in
-    rw (told .answer3 .given .1) (call .put-said3 .ensures)
+    record { wrote = rw (told .answer3 .given .1) (call .put-said3 .ensures .wrote); short = search needs }
 
 same-length-4 : tie.Need-same-length-4
 same-length-4 c = search needs
@@ -83,7 +83,7 @@ unfolding firstLine wordsOf said ascii
 returns-4 c =
     let call : tie.After-put-said4 = search in
     let told : tie.After-answer4 = search in
-    rw (told .answer4 .given .1) (call .put-said4 .ensures)
+    record { wrote = rw (told .answer4 .given .1) (call .put-said4 .ensures .wrote); short = search needs }
 
 pub put-first-spec : {M : Type 1} → statement M
 put-first-spec =

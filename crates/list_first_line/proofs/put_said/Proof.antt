@@ -48,6 +48,8 @@ returns : tie.Need-returns
 returns c =
     let start : tie.Start = search in
     let fits = line-fits start in
+    let small = start .fits .first .fits in
+    let small′ = start .fits .second .fits in
     search wrote-said
 
 pub put-said-spec : {M : Type 1} → statement M

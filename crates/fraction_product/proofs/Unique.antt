@@ -5,11 +5,11 @@ use Rattle.fraction.specs.Exact.{value}
 use Rattle.fraction.specs.Limits.{times, over}
 use Rattle.fraction.specs.declared.Fraction.{Fraction}
 use Rattle.fraction_reduce.specs.Values.{Answers}
-use Rattle.fraction_reduce.specs.declared.Made.{Made}
+use Rattle.fraction_reduce.specs.declared.Tested.{Tested}
 use Rattle.fraction_reduce.proofs.Unique.{answers-unique}
 
-pub product-unique : (a b : Fraction) (r s : Made) → Answers r (times (value a) (value b)) → Answers s (times (value a) (value b)) → r ≡ s
+pub product-unique : (a b : Fraction) (r s : Tested) → Answers r (times (value a) (value b)) → Answers s (times (value a) (value b)) → r ≡ s
 product-unique a b r s p q = answers-unique p q
 
-pub quotient-unique : (a b : Fraction) (r s : Made) → Answers r (over (value a) (value b)) → Answers s (over (value a) (value b)) → r ≡ s
+pub quotient-unique : (a b : Fraction) (r s : Tested) → Answers r (over (value a) (value b)) → Answers s (over (value a) (value b)) → r ≡ s
 quotient-unique a b r s p q = answers-unique p q

@@ -1,5 +1,5 @@
 // The sum and the difference of two fractions.
-use fraction_reduce::Made;
+use fraction_reduce::Tested;
 use fraction_reduce::bottoms;
 use fraction_reduce::reduce::reduced;
 use fraction::Fraction;
@@ -23,7 +23,7 @@ fn cross(a: Fraction, b: Fraction) -> i64
 }
 
 // Any two summands.
-fn sum_plain(a: Fraction, b: Fraction) -> Made
+fn sum_plain(a: Fraction, b: Fraction) -> Tested
     requires { ⌜ Good a ⌝ }
     requires { ⌜ Good b ⌝ }
     ensures { λ r. ⌜ Answers r (plus (value a) (value b)) ⌝ }
@@ -32,22 +32,22 @@ fn sum_plain(a: Fraction, b: Fraction) -> Made
 }
 
 // a plus b. To add 0 needs no gcd.
-pub fn sum(a: Fraction, b: Fraction) -> Made
+pub fn sum(a: Fraction, b: Fraction) -> Tested
     requires { ⌜ Good a ⌝ }
     requires { ⌜ Good b ⌝ }
     ensures { λ r. ⌜ Answers r (plus (value a) (value b)) ⌝ }
 {
     if a.num == 0 {
-        return Made::Fits(b);
+        return Tested::Fits(b);
     }
     if b.num == 0 {
-        return Made::Fits(a);
+        return Tested::Fits(a);
     }
     sum_plain(a, b)
 }
 
 // a minus b.
-pub fn difference(a: Fraction, b: Fraction) -> Made
+pub fn difference(a: Fraction, b: Fraction) -> Tested
     requires { ⌜ Good a ⌝ }
     requires { ⌜ Good b ⌝ }
     ensures { λ r. ⌜ Answers r (minus (value a) (value b)) ⌝ }

@@ -12,7 +12,7 @@ use Rattle.rules_problem.specs.Bits.{field}
 use Rattle.rules_problem.specs.Problem.{Problem, decoded}
 use Rattle.record_items.specs.declared.Sides.{Sides}
 use Rattle.rules_problem.specs.Pairs.{pairThere}
-use Rattle.record_items.specs.Held.{pairOf}
+use Rattle.record_items.specs.Held.{asPair}
 use Rattle.rules_problem.proofs.Holding.{sides-made, pairs-count, pair-there}
 use Rattle.rules_run.specs.Run.{byNumber, assume}
 use Rattle.run_table.specs.Work.{Work, tableOf}
@@ -26,10 +26,10 @@ use Rattle.run_assume.specs.Assumed.{assumed}
 use Rattle.run_assume.specs.Contract.{Stays, Assumes, AllAssumable, AssumesAll}
 
 -- The sides of a pair are numbers of terms.
-pub sides-below : (bytes : List ℕ) (n k : ℕ) (sides : Sides) → made (pairOf sides) ≡ pairThere bytes n k → (sides .left < n) × (sides .right < n)
-unfolding pairThere pairOf
+pub sides-below : (bytes : List ℕ) (n k : ℕ) (sides : Sides) → made (asPair sides) ≡ pairThere bytes n k → (sides .left < n) × (sides .right < n)
+unfolding pairThere asPair
 sides-below bytes n k sides there =
-    let both = sides-made bytes n k _ (pairOf sides) (sym there) in
+    let both = sides-made bytes n k _ (asPair sides) (sym there) in
     (both .left-below, both .right-below)
 
 -- In the loop, before assumption k: what is left to assume gives what all of them give; only the rows of the terms have changed;
@@ -76,21 +76,21 @@ module _ {bytes : List ℕ} {n m solved : ℕ} {heads inputs : List ℕ} {old : 
           sparse = assuming .resting .ready .rows .sparse;
         }
 
-    module _ (some-left : k ≤ m) (sides : Sides) (there : made (pairOf sides) ≡ pairThere bytes n k) where
+    module _ (some-left : k ≤ m) (sides : Sides) (there : made (asPair sides) ≡ pairThere bytes n k) where
       -- pair k is the first of those that are left
-      first : (problem : Problem) → decoded bytes ≡ made problem → drop (k - 1) (problem .pairs) ≡ pairOf sides ∷ drop k (problem .pairs)
+      first : (problem : Problem) → decoded bytes ≡ made problem → drop (k - 1) (problem .pairs) ≡ asPair sides ∷ drop k (problem .pairs)
       first problem held =
           let below : k - 1 < field bytes 8 8 = omega (arith, ready .pairs, assuming .least) in
           let index : suc (k - 1) ≡ k = omega (arith, assuming .least) in
           let number : 1 + (k - 1) ≡ k = omega (arith, assuming .least) in
-          let found : pairThere bytes n k ≡ made (getD (problem .pairs) (k - 1) (pairOf sides)) = rw (number, ← ready .prepared .terms) at (pair-there bytes problem held (k - 1) below (pairOf sides)) in
-          let same : getD (problem .pairs) (k - 1) (pairOf sides) ≡ pairOf sides = cc in
-          drop-cons (problem .pairs) (k - 1) (pairOf sides) (omega (arith, pairs-count bytes problem held))
+          let found : pairThere bytes n k ≡ made (getD (problem .pairs) (k - 1) (asPair sides)) = rw (number, ← ready .prepared .terms) at (pair-there bytes problem held (k - 1) below (asPair sides)) in
+          let same : getD (problem .pairs) (k - 1) (asPair sides) ≡ asPair sides = cc in
+          drop-cons (problem .pairs) (k - 1) (asPair sides) (omega (arith, pairs-count bytes problem held))
           ∙ ap₂ (λ p j. p ∷ drop j (problem .pairs)) same index
 
       module _ {answer : Ran} {new : Work} (assumes : Assumes n k (sides .left) (sides .right) count heads inputs answer w new) where
         step : (to : Ran) → answer ≡ to → (problem : Problem) → decoded bytes ≡ made problem → assume byNumber (problem .terms) 1 (problem .pairs) (stateOf n old solved) ≡ ran to (tableOf n new) >>= assume byNumber (problem .terms) (suc k) (drop k (problem .pairs))
-        unfolding assume assumed pairOf
+        unfolding assume assumed asPair
         step to is problem held =
             assuming .rest problem held
             ∙ ap (λ ps. assume byNumber (problem .terms) k ps (stateOf n w count)) (first problem held)

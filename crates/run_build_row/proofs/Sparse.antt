@@ -15,7 +15,7 @@ use lib.IntN.{ℤ, pos}
 use denote.Enum.Declared.{tagOf}
 use types.Run.{OneOf, miss}
 use Rattle.set_members.specs.Sets.{holds}
-use Rattle.set_extremes.specs.Ends.{Next}
+use Rattle.set_extremes.specs.Extremes.{Next}
 use Rattle.fraction.specs.Exact.{ℚ, value, zeroℚ, _+ℚ_, _-ℚ_, _*ℚ_}
 use Rattle.fraction.specs.Limits.{tested, plus, minus, times}
 use Rattle.fraction.specs.Made.{Made, made}

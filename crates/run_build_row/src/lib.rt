@@ -1,5 +1,5 @@
 // The row of one term, built from the rows before it.
-use fraction_reduce::Made;
+use fraction_reduce::Tested;
 use fraction::Fraction;
 use rules_problem::COLUMNS;
 use rules_problem::Kind;
@@ -35,7 +35,7 @@ fn cell(nums: &[i32], dens: &[i32], t: usize, c: usize) -> Fraction
 }
 
 // Column c of the row of a gain, a sum or a difference, whose fraction is in lowest terms.
-fn built_column(kind: Kind, t: usize, c: usize, nums: &[i32], dens: &[i32]) -> Made
+fn built_column(kind: Kind, t: usize, c: usize, nums: &[i32], dens: &[i32]) -> Tested
     requires { ⌜ (t < 64) × (c < 65) × (4160 ≤ length (now nums)) × (4160 ≤ length (now dens)) ⌝ }
     requires { ⌜ SoundTo (65 * t) (now nums) (now dens) ⌝ }
     requires { ⌜ Buildable Good t kind × Combined kind ⌝ }
@@ -49,7 +49,7 @@ fn built_column(kind: Kind, t: usize, c: usize, nums: &[i32], dens: &[i32]) -> M
         Kind::Difference { left, right } => {
             fraction_sum::difference(cell(nums, dens, left, c), cell(nums, dens, right, c))
         }
-        _ => Made::Fits(Fraction { num: 0, den: 1 }),
+        _ => Tested::Fits(Fraction { num: 0, den: 1 }),
     }
 }
 
@@ -136,11 +136,11 @@ fn built_row(kind: Kind, t: usize, columns: u64, nums: &mut [i32], dens: &mut [i
     while c < COLUMNS {
         let at = set_extremes::next(columns, c);
         match built_column(kind, t, at, nums, dens) {
-            Made::Fits(f) => {
+            Tested::Fits(f) => {
                 run_table::put(nums, dens, COLUMNS * t + at, f);
                 c = at + 1;
             }
-            Made::Refused(number) => return Step::Refused(number),
+            Tested::Refused(number) => return Step::Refused(number),
         }
     }
     Step::Done

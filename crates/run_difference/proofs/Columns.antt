@@ -13,7 +13,7 @@ use Rattle.fraction.specs.Made.{made}
 use Rattle.fraction.proofs.Field.{minus-is-plus, plus-inverse}
 use Rattle.set_members.specs.Sets.{holds}
 use Rattle.set_members.proofs.Digits.{holds-none}
-use Rattle.set_extremes.specs.Ends.{Next}
+use Rattle.set_extremes.specs.Extremes.{Next}
 use Rattle.fraction_reduce.proofs.Tests.{zero-passes}
 use Rattle.rules_run.specs.Row.{TERMS, COLUMNS, column}
 use Rattle.run_table.specs.Held.{heldAt, rowAt, SoundTo}

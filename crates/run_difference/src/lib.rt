@@ -1,6 +1,6 @@
 // The difference of two rows, in a row of its own. It goes only through the columns of a set, outside of which the rows hold 0, and
 // through the constant's, which `set_extremes::first` comes to last.
-use fraction_reduce::Made;
+use fraction_reduce::Tested;
 use rules_problem::COLUMNS;
 use run_table::Step;
 ghost use Prim.Native.Nat.{_+_, _≤_};
@@ -39,12 +39,12 @@ pub fn difference(
         let a = run_table::get(nums, dens, left + at);
         let b = run_table::get(nums, dens, right + at);
         match fraction_sum::difference(a, b) {
-            Made::Fits(f) => {
+            Tested::Fits(f) => {
                 run_table::put(d_nums, d_dens, at, f);
                 rest = set_extremes::rest(rest);
                 c = at + 1;
             }
-            Made::Refused(number) => return Step::Refused(number),
+            Tested::Refused(number) => return Step::Refused(number),
         }
     }
     Step::Done

@@ -14,7 +14,7 @@ use lib.Dec.{eqb}
 use lib.IntN.{ℤ}
 use lib.ListN.{length, length-set, set as stored-at}
 use Rattle.set_members.specs.Sets.{holds}
-use Rattle.set_extremes.specs.Ends.{Next}
+use Rattle.set_extremes.specs.Extremes.{Next}
 use Rattle.fraction.specs.declared.Fraction.{Fraction}
 use Rattle.fraction.specs.Exact.{ℚ, value, zeroℚ}
 use Rattle.fraction.specs.Made.{Made, made, _>>=_, tab}

@@ -1,5 +1,5 @@
 // Folding a solved form into the rows of the table.
-use fraction_reduce::Made;
+use fraction_reduce::Tested;
 use fraction::Fraction;
 use rules_problem::COLUMNS;
 use run_table::PENDING;
@@ -22,7 +22,7 @@ ghost use Rattle.run_fold.specs.Sets.{Noted, Turn};
 ghost use Rattle.run_fold.specs.Rows.{Passed};
 
 // The old number gains k times the form's: one product, one sum. 1 time the form is the form: that needs no product.
-fn gained(k: Fraction, form: Fraction, old: Fraction) -> Made
+fn gained(k: Fraction, form: Fraction, old: Fraction) -> Tested
     requires { ⌜ Good k ⌝ }
     requires { ⌜ Good form ⌝ }
     requires { ⌜ Good old ⌝ }
@@ -34,8 +34,8 @@ fn gained(k: Fraction, form: Fraction, old: Fraction) -> Made
         }
     }
     match fraction_product::product(k, form) {
-        Made::Fits(f) => fraction_sum::sum(old, f),
-        Made::Refused(number) => Made::Refused(number),
+        Tested::Fits(f) => fraction_sum::sum(old, f),
+        Tested::Refused(number) => Tested::Refused(number),
     }
 }
 
@@ -66,8 +66,8 @@ fn gain_columns(
         if form.num != 0 {
             let old = run_table::get(nums, dens, base + at);
             match gained(k, form, old) {
-                Made::Fits(f) => run_table::put(nums, dens, base + at, f),
-                Made::Refused(number) => return Step::Refused(number),
+                Tested::Fits(f) => run_table::put(nums, dens, base + at, f),
+                Tested::Refused(number) => return Step::Refused(number),
             }
         }
     }

@@ -9,7 +9,7 @@ use native.Mathlib.Decide.{decLt}
 use native.Mathlib.Omega.{arith}
 use borrow.Author.Tests.{lt-ltb}
 use lib.IntN.{ℤ}
-use Rattle.set_extremes.specs.Ends.{Last}
+use Rattle.set_extremes.specs.Extremes.{Last}
 use Rattle.fraction.specs.Exact.{zeroℚ, eqℚ}
 use Rattle.fraction.proofs.Equality.{eqℚ-same}
 use Rattle.rules_run.specs.Row.{Row, column}

@@ -1,6 +1,6 @@
 // The form of the unknown that a difference solves, in the difference's place. It goes only through the columns of a set, outside of
 // which the difference holds 0, and through the constant's, which `set_extremes::first` comes to last.
-use fraction_reduce::Made;
+use fraction_reduce::Tested;
 use fraction::Fraction;
 use rules_problem::COLUMNS;
 use run_table::Step;
@@ -29,17 +29,17 @@ fn factor_of(k: Fraction) -> Fraction
 }
 
 // The factor times a number of the difference. Times 1 and times -1, which are the factor of most unknowns, need no product.
-fn scaled(factor: Fraction, x: Fraction) -> Made
+fn scaled(factor: Fraction, x: Fraction) -> Tested
     requires { ⌜ Good factor ⌝ }
     requires { ⌜ Good x ⌝ }
     ensures { λ r. ⌜ Answers r (times (value factor) (value x)) ⌝ }
 {
     if factor.den == 1 {
         if factor.num == -1 {
-            return Made::Fits(fraction_inverse::negated(x));
+            return Tested::Fits(fraction_inverse::negated(x));
         }
         if factor.num == 1 {
-            return Made::Fits(x);
+            return Tested::Fits(x);
         }
     }
     fraction_product::product(factor, x)
@@ -60,12 +60,12 @@ fn scale_columns(d_nums: &mut [i32], d_dens: &mut [i32], factor: Fraction, set: 
         let at = set_extremes::first(rest);
         let x = run_table::get(d_nums, d_dens, at);
         match scaled(factor, x) {
-            Made::Fits(f) => {
+            Tested::Fits(f) => {
                 run_table::put(d_nums, d_dens, at, f);
                 rest = set_extremes::rest(rest);
                 c = at + 1;
             }
-            Made::Refused(number) => return Step::Refused(number),
+            Tested::Refused(number) => return Step::Refused(number),
         }
     }
     Step::Done

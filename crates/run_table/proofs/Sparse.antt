@@ -18,7 +18,7 @@ use Rattle.fraction.specs.Made.{Made, made}
 use Rattle.fraction_reduce.specs.Values.{Good}
 use Rattle.fraction_reduce.proofs.Tests.{zero-value}
 use Rattle.set_members.specs.Sets.{holds}
-use Rattle.set_extremes.specs.Ends.{Next}
+use Rattle.set_extremes.specs.Extremes.{Next}
 use Rattle.run_table.specs.Held.{heldAt, SoundTo}
 use Rattle.run_table.specs.Loop.{Making}
 use Rattle.run_table.specs.Sparse.{Within, Stirred}

@@ -10,8 +10,8 @@ use Rattle.fraction.specs.declared.Fraction.{Fraction}
 use Rattle.fraction.specs.Exact.{ℚ}
 use Rattle.fraction.specs.Made as rule
 use Rattle.fraction_reduce.specs.Values.{Answers}
-use Rattle.fraction_reduce.specs.declared.Made.{Made}
-use Rattle.fraction_reduce.specs.declared.Made.the-variants.{Fits, Refused}
+use Rattle.fraction_reduce.specs.declared.Tested.{Tested}
+use Rattle.fraction_reduce.specs.declared.Tested.the-variants.{Fits, Refused}
 use Rattle.fraction_reduce.proofs.Answered.{fits-made, fits-good, refused-stopped}
 use Rattle.rules_run.specs.Row.{COLUMNS}
 use Rattle.run_table.specs.declared.Step.{Step}
@@ -20,7 +20,7 @@ use Rattle.run_table.specs.Held.{finished}
 use Rattle.run_table.specs.Loop.{Making, RowMade}
 use Rattle.run_table.proofs.Rows.{making-goes-on, making-stops, making-ends}
 
-module _ {g : ℕ → rule.Made ℕ ℚ} {base m j : ℕ} {nums₀ dens₀ nums dens : List ℤ} (making : Making g base m j nums₀ dens₀ nums dens) {r : Made} (answers : Answers r (g j)) where
+module _ {g : ℕ → rule.Made ℕ ℚ} {base m j : ℕ} {nums₀ dens₀ nums dens : List ℤ} (making : Making g base m j nums₀ dens₀ nums dens) {r : Tested} (answers : Answers r (g j)) where
   -- The fraction that answers the rule's column is stored: one column more is made.
   pub turn-stores : {f : Fraction} {place : ℕ} {nums′ dens′ : List ℤ} → r ≡ Fits f → place ≡ base + j → place < length nums → place < length dens → nums′ ≡ set nums place (f .num) → dens′ ≡ set dens place (f .den) → Making g base m (j + 1) nums₀ dens₀ nums′ dens′
   turn-stores {f} e at n d num den =

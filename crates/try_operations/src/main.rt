@@ -1,5 +1,5 @@
 // The operations in code on every pair of 24 fractions, the limits' neighbours and cases M and N's numbers among them.
-use fraction_reduce::Made;
+use fraction_reduce::Tested;
 use fraction::Fraction;
 ghost use mathlib.Core.Path.{_≡_};
 ghost use mathlib.Core.Bool.{true};
@@ -81,11 +81,11 @@ fn wide(x: u8) -> u64 {
     x as u64
 }
 
-fn show(made: Made) {
+fn show(made: Tested) {
     io::write_all(1, b" ");
     match made {
-        Made::Fits(f) => show_fraction(f),
-        Made::Refused(number) => {
+        Tested::Fits(f) => show_fraction(f),
+        Tested::Refused(number) => {
             io::write_all(1, b"refused ");
             io::print_decimal(1, wide(number));
         }

@@ -2,7 +2,7 @@ use Rattle.run_build_row.proofs.Alone.{not-combined}
 use Rattle.run_build_row.proofs.Columns.{cell-stands}
 use Rattle.run_build_row.specs.Buildable.{Holding, Below}
 use Rattle.rules_problem.specs.declared.Kind.{Kind}
-use Rattle.fraction_reduce.specs.declared.Made.{Made}
+use Rattle.fraction_reduce.specs.declared.Tested.{Tested}
 use Rattle.fraction_reduce.specs.Values.{Good, Stands, Answers}
 use Rattle.fraction.specs.declared.Fraction.{Fraction}
 use Rattle.fraction.specs.Limits.{plus, minus, times}
@@ -27,7 +27,7 @@ module _ (s : tie.Start) {kind : Kind} (e : s .args .kind ≡ kind) where
   good : Holding Good kind
   good = subst (Holding Good) e (s .pre .1 .1 .0 .fraction)
 
-  answers : {r : Made} → Answers r (builtColumn (table-of s) (s .args .t) kind (s .args .c)) → Answers r (builtColumn (table-of s) (s .args .t) (s .args .kind) (s .args .c))
+  answers : {r : Tested} → Answers r (builtColumn (table-of s) (s .args .t) kind (s .args .c)) → Answers r (builtColumn (table-of s) (s .args .t) (s .args .kind) (s .args .c))
   answers {r} = subst (λ k. Answers r (builtColumn (table-of s) (s .args .t) k (s .args .c))) (sym e)
 
 earlier : (s : tie.Start) {input : ℕ} {f : Fraction} → input < s .args .t → f ≡ heldAt (s .args .nums .now) (s .args .dens .now) (65 * input + s .args .c) → Stands f (cell (table-of s) input (s .args .c))

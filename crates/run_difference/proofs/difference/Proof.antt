@@ -7,7 +7,7 @@ use native.Mathlib.Omega.{arith}
 use denote.Ref.{now}
 use Rattle.fraction.specs.Limits.{minus}
 use Rattle.set_members.proofs.Digits.{holds-none}
-use Rattle.set_extremes.specs.Ends.{Next}
+use Rattle.set_extremes.specs.Extremes.{Next}
 use Rattle.set_extremes.proofs.Taken.{From, from-starts, from-first, from-rest}
 use Rattle.fraction_reduce.specs.Values.{Good, Answers}
 use Rattle.rules_run.specs.Row.{COLUMNS, TERMS, column}

@@ -9,7 +9,7 @@ use native.Mathlib.Omega.{arith}
 use lib.Dec.{eqb}
 use lib.ListN.{length, getD}
 use Rattle.set_members.specs.Sets.{holds}
-use Rattle.set_extremes.specs.Ends.{Next}
+use Rattle.set_extremes.specs.Extremes.{Next}
 use Rattle.laws_invariant.proofs.Pivot.{last-or-before}
 use Rattle.rules_problem.specs.declared.Term.{Term}
 use Rattle.rules_run.specs.Row.{Table}

@@ -6,7 +6,7 @@ use mathlib.Core.Option.{some, none}
 use mathlib.Core.List.{List}
 use Prim.Native.Nat.{ℕ, _+_, _-_, _<_}
 use native.Mathlib.Omega.{arith}
-use Rattle.set_extremes.specs.Ends.{Next}
+use Rattle.set_extremes.specs.Extremes.{Next}
 use Rattle.set_extremes.proofs.Taken.{From, from-starts, from-first, from-here, from-rest}
 use Rattle.rules_problem.specs.declared.Term.{Term}
 use Rattle.rules_run.specs.Row.{Table}

@@ -5,7 +5,7 @@ use mathlib.Core.Path.{_≡_, sym, _∙_}
 use mathlib.Core.Bool.{Bool, _&&_}
 use Prim.Native.Nat.{ℕ, _-_, _≤_}
 use native.Mathlib.Omega.{arith}
-use Rattle.set_extremes.specs.Ends.{Last}
+use Rattle.set_extremes.specs.Extremes.{Last}
 use Rattle.rules_run.specs.Row.{TERMS, COLUMNS, sameTo}
 use Rattle.run_table.specs.Held.{rowAt}
 use Rattle.run_equal_rows.proofs.Equal.{same-step, same-skips, same-outside}

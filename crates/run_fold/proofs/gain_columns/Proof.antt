@@ -4,7 +4,7 @@ use mathlib.Core.Path.{_≡_, refl, sym, _∙_, subst}
 use Prim.Native.Nat.{_+_, _-_, _≤_}
 use native.Mathlib.Omega.{arith}
 use denote.Ref.{now}
-use Rattle.set_extremes.specs.Ends.{Next}
+use Rattle.set_extremes.specs.Extremes.{Next}
 use Rattle.set_extremes.proofs.Taken.{From, from-starts, from-first, from-rest}
 use Rattle.fraction.specs.Exact.{value}
 use Rattle.fraction_reduce.specs.Values.{Good, Answers}

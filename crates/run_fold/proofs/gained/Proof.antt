@@ -3,7 +3,7 @@
 use mathlib.Core.Path.{refl, sym, subst}
 use lib.IntN.{pos}
 use Rattle.fraction.specs.Exact.{value}
-use Rattle.fraction_reduce.specs.Values.{Answers, says, Sound}
+use Rattle.fraction_reduce.specs.Values.{Answers, says, FitsGood}
 use Rattle.fraction_reduce.proofs.Answered.{fits-made, fits-good, refused-stopped}
 use Rattle.fraction_reduce.proofs.Operations.{good-num, good-den}
 use Rattle.fraction_reduce.proofs.Shortcuts.{word-is, times-one}
@@ -44,7 +44,7 @@ returns-2 c =
     subst (Answers (c .sum2 .result)) (sym (gained-then (value (start .k)) (value (start .form)) (value (start .old)) (fits-made (product .ensures) (c .before .before .f .given .1)))) (c .sum2 .ensures)
 
 returns-3 : tie.Need-returns-3
-unfolding says Sound
+unfolding says FitsGood
 returns-3 c =
     let product = c .before .before .before .product in
     let start = c .before .before .before .before .before .before .before .args in

@@ -5,7 +5,7 @@ use Prim.Native.Nat.{_-_, _≤_}
 use native.Mathlib.Nat.{zero-add}
 use native.Mathlib.Omega.{arith}
 use denote.Ref.{now}
-use Rattle.set_extremes.specs.Ends.{Next}
+use Rattle.set_extremes.specs.Extremes.{Next}
 use Rattle.set_extremes.proofs.Taken.{From, from-starts, from-first, from-rest}
 use Rattle.fraction.specs.Exact.{value}
 use Rattle.fraction_reduce.specs.Values.{Good, Answers}

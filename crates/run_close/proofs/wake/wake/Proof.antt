@@ -2,7 +2,7 @@
 use borrow.Author.Needs.{needs}
 use Prim.Native.Nat.{_+_, _-_, _<_}
 use native.Mathlib.Omega.{arith}
-use Rattle.set_extremes.specs.Ends.{Next}
+use Rattle.set_extremes.specs.Extremes.{Next}
 use Rattle.set_extremes.proofs.Taken.{From, from-starts, from-first, from-here, from-rest}
 use Rattle.run_table.specs.Sparse.{pendingOf, openOf}
 use Rattle.run_close.proofs.Waking.{Waking, grown-itself, waking-skips, waking-more, woken-ends, woken-idle}

@@ -20,7 +20,7 @@ ghost use Rattle.rules_run.specs.Run as rule;
 ghost use Rattle.rules_run.specs.Run.{byNumber};
 ghost use Rattle.run_table.specs.Held.{tableAt, SoundTo};
 ghost use Rattle.run_table.specs.Loop.{Kept};
-ghost use Rattle.run_table.specs.Sparse.{Sparse};
+ghost use Rattle.run_table.specs.Sets.{Sparse};
 ghost use Rattle.run_progress.specs.Ran.{ran, WhileGoing};
 ghost use Rattle.rules_outcome.specs.Outcome.{decision, after};
 ghost use Rattle.run_finish.specs.Leaves.{leaves};

@@ -16,7 +16,7 @@ use Rattle.run_merge.specs.Contract.{Hints, Merges}
 use Rattle.run_merge.specs.declared.Merged.{Merged}
 use Rattle.run_merge.specs.declared.Merged.the-variants.{Nothing, Solved, Contradiction as Clash, Refused as Outside}
 use Rattle.run_due_pair.specs.Found.{Lookups}
-use Rattle.run_close.specs.declared.Closed.{Closed}
+use Rattle.run_close.specs.declared.AfterClosing.{AfterClosing}
 use Rattle.run_close.specs.Ready.{Resting}
 use Rattle.run_close.specs.Contract.{stateOf, Closable, Closes}
 use Rattle.run_close.proofs.Sets.{ready-merged, merged-awake}
@@ -43,7 +43,7 @@ module _ {n left right solved : ℕ} {heads inputs : List ℕ} {old mid : Work} 
         }
 
     -- Closing gives what the assumption comes to.
-    closes-on : {place : ℕ} {c : Closed} {r : Ran} {new : Work} → Closes n count heads inputs c mid new → Places place c (solved + 66) r → Assumes n place left right solved heads inputs r old new
+    closes-on : {place : ℕ} {c : AfterClosing} {r : Ran} {new : Work} → Closes n count heads inputs c mid new → Places place c (solved + 66) r → Assumes n place left right solved heads inputs r old new
     unfolding _>>=_
     closes-on {place} {c} {r} {new} closes places =
         record {
@@ -73,11 +73,11 @@ module _ {n left right solved : ℕ} {heads inputs : List ℕ} {old mid : Work} 
   unfolding Unstopped
   assumes-more is = record { resting = rests Solved is (solved + 1) one-more (hints-of Solved is); few-solved = omega (arith, ready .few-solved) }
 
-  pub same-closes : answer ≡ Nothing → {place : ℕ} {c : Closed} {r : Ran} {new : Work} → Closes n solved heads inputs c mid new → Places place c (solved + 66) r → Assumes n place left right solved heads inputs r old new
+  pub same-closes : answer ≡ Nothing → {place : ℕ} {c : AfterClosing} {r : Ran} {new : Work} → Closes n solved heads inputs c mid new → Places place c (solved + 66) r → Assumes n place left right solved heads inputs r old new
   unfolding merged Unstopped
   same-closes is = closes-on Nothing is solved refl (hints-of Nothing is)
 
-  pub more-closes : answer ≡ Solved → {place : ℕ} {c : Closed} {r : Ran} {new : Work} → Closes n (solved + 1) heads inputs c mid new → Places place c (solved + 66) r → Assumes n place left right solved heads inputs r old new
+  pub more-closes : answer ≡ Solved → {place : ℕ} {c : AfterClosing} {r : Ran} {new : Work} → Closes n (solved + 1) heads inputs c mid new → Places place c (solved + 66) r → Assumes n place left right solved heads inputs r old new
   unfolding Unstopped
   more-closes is = closes-on Solved is (solved + 1) one-more (hints-of Solved is)
 

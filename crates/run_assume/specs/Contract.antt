@@ -11,7 +11,7 @@ use Rattle.rules_problem.specs.Problem.{Problem, decoded}
 use Rattle.rules_run.specs.Run.{byNumber, assume}
 use Rattle.run_table.specs.Held.{SoundTo}
 use Rattle.run_table.specs.Loop.{Kept}
-use Rattle.run_table.specs.Sparse.{Sparse}
+use Rattle.run_table.specs.Sets.{Sparse}
 use Rattle.run_table.specs.Work.{Work, tableOf}
 use Rattle.run_due_pair.specs.Found.{Lookups}
 use Rattle.run_close.specs.Ready.{Resting}

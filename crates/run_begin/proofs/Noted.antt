@@ -18,7 +18,7 @@ use Rattle.record_cursor.proofs.Bits.{field-below}
 use Rattle.rules_problem.proofs.Holding.{terms-count, term-there}
 use Rattle.laws_valuation.specs.Written.{allInputs}
 use Rattle.laws_valuation.proofs.Decoded.{decoded-sound}
-use Rattle.run_table.specs.Calls.{inputOf, Calls}
+use Rattle.run_table.specs.Notes.{inputOf, LookupsNoted}
 use Rattle.run_due_pair.specs.Found.{symbolOf, Lookups, InputsBelow}
 use Rattle.run_due_pair.proofs.Heads.{inputs-below}
 
@@ -60,7 +60,7 @@ module _ (bytes : List ℕ) (problem : Problem) (held : decoded bytes ≡ made p
       kind-small (field-below bytes 8 (32 + 64 * t + 4)) (term-recorded bytes t (getD (problem .terms) t absent) (term-there bytes problem held t (omega (arith, count, below)) absent))
 
   -- Each input of a lookup stands below it; where it has none, the place holds 0, which is a term.
-  pub decoded-inputs : {heads inputs : List ℕ} → Calls (problem .terms) n heads inputs → InputsBelow n inputs
+  pub decoded-inputs : {heads inputs : List ℕ} → LookupsNoted (problem .terms) n heads inputs → InputsBelow n inputs
   decoded-inputs calls =
       let size = terms-count bytes problem held in
       inputs-below calls λ t i below place.
@@ -68,5 +68,5 @@ module _ (bytes : List ℕ) (problem : Problem) (held : decoded bytes ≡ made p
       (λ x m. omega (arith, below, decoded-sound bytes problem held .written .earlier t (omega (arith, size, count, below)) x m)) i
 
   -- What is noted of a problem that is decoded are its lookups.
-  pub decoded-lookups : {heads inputs : List ℕ} → Calls (problem .terms) n heads inputs → Lookups (problem .terms) n heads inputs
+  pub decoded-lookups : {heads inputs : List ℕ} → LookupsNoted (problem .terms) n heads inputs → Lookups (problem .terms) n heads inputs
   decoded-lookups calls = record { count = terms-count bytes problem held ∙ sym count; calls = calls; symbols = decoded-symbols }

@@ -21,11 +21,11 @@ use Rattle.run_table.specs.declared.Step.{Step}
 use Rattle.run_table.specs.declared.Step.the-variants.{Done, Refused as Stopped}
 use Rattle.run_table.specs.Work.{Work, tableOf}
 use Rattle.run_table.proofs.Columns.{kept-then}
-use Rattle.run_table.proofs.Turns.{finished-done, finished-refused}
+use Rattle.run_table.proofs.Turns.{stepped-done, stepped-refused}
 use Rattle.run_build.specs.Built.{TableBuilt}
 use Rattle.run_due_pair.specs.Found.{Lookups}
 use Rattle.run_due_pair.proofs.Woken.{all-awake}
-use Rattle.run_close.specs.declared.Closed.{Closed}
+use Rattle.run_close.specs.declared.AfterClosing.{AfterClosing}
 use Rattle.run_close.specs.Ready.{Resting}
 use Rattle.run_close.specs.Contract.{Closes}
 use Rattle.run_progress.specs.declared.Ran.{Ran}
@@ -64,7 +64,7 @@ module _ {bytes : List ℕ} {n : ℕ} {heads₀ inputs₀ heads inputs : List �
   unfolding ran WhileGoing AtMost
   begins-refused is =
       record {
-        answers = λ problem held. begin-refused byNumber (problem .terms) (finished-refused _ (builds problem held .ends) is);
+        answers = λ problem held. begin-refused byNumber (problem .terms) (stepped-refused _ (builds problem held .ends) is);
         kept = rows .kept;
         prepared = tt;
         counted = tt;
@@ -91,11 +91,11 @@ module _ {bytes : List ℕ} {n : ℕ} {heads₀ inputs₀ heads inputs : List �
         }
 
     -- They are closed.
-    pub begins-closed : {c : Closed} {r : Ran} {new : Work} → Closes n 0 heads inputs c mid new → Places 0 c 65 r → Begins bytes n r heads₀ inputs₀ heads inputs old new
+    pub begins-closed : {c : AfterClosing} {r : Ran} {new : Work} → Closes n 0 heads inputs c mid new → Places 0 c 65 r → Begins bytes n r heads₀ inputs₀ heads inputs old new
     begins-closed {c} {r} {new} closes places =
         record {
           answers = λ problem held.
-              begin-closed byNumber (problem .terms) (finished-done (builds problem held .ends) done)
+              begin-closed byNumber (problem .terms) (stepped-done (builds problem held .ends) done)
               ∙ ap (because (ends 0)) (closes .answers (problem .terms) (noted problem held))
               ∙ places .answers (tableOf n new);
           kept = kept-then (rows .kept) (closes .kept);

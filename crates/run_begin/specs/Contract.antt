@@ -9,7 +9,7 @@ use Rattle.rules_problem.specs.Bits.{field}
 use Rattle.rules_problem.specs.Problem.{Problem, decoded}
 use Rattle.record_reader.specs.Held.{Held}
 use Rattle.rules_run.specs.Run.{byNumber, begin}
-use Rattle.run_table.specs.Calls.{NotesKept}
+use Rattle.run_table.specs.Notes.{NotesKept}
 use Rattle.run_table.specs.Loop.{Kept}
 use Rattle.run_table.specs.Work.{Work, tableOf}
 use Rattle.run_progress.specs.declared.Ran.{Ran}

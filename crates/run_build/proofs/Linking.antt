@@ -13,7 +13,7 @@ use lib.ListN.{length, getD, set}
 use lib.Seq.{getD-set-same, getD-set-other}
 use lib.IntN.{ℤ}
 use Rattle.set_members.specs.Sets.{holds}
-use Rattle.run_table.specs.Sparse.{columnsOf, usersOf, earlierOf, openOf, Sparse, Linked}
+use Rattle.run_table.specs.Sets.{columnsOf, usersOf, earlierOf, openOf, Sparse, Linked}
 use Rattle.run_table.proofs.Linked.{linked-kept}
 use Rattle.run_build.specs.Links.{InputsSmall, UsedBelow, Traced, Opened, Grown}
 

@@ -16,8 +16,8 @@ use Rattle.rules_problem.specs.declared.Kind.the-variants.{Variable, Constant, 
 use Rattle.rules_problem.specs.declared.Term.{Term}
 use Rattle.rules_problem.specs.Lookup.{callOf, inputsOf, kindAt}
 use Rattle.rules_problem.proofs.Kind.{the-type}
-use Rattle.run_table.specs.Calls.{headOf, inputOf, Calls, NotesKept}
-use Rattle.run_table.specs.Sparse.{Linked}
+use Rattle.run_table.specs.Notes.{headOf, inputOf, LookupsNoted, NotesKept}
+use Rattle.run_table.specs.Sets.{Linked}
 use Rattle.run_build_row.specs.Buildable.{Below}
 use Rattle.run_build.specs.Links.{InputsSmall, Opened}
 use Rattle.run_build.proofs.Linking.{opened-same}
@@ -80,7 +80,7 @@ stored-own inputs t kind wide (suc (suc zero)) place = stored-third inputs (3 * 
 stored-own inputs t kind wide (suc (suc (suc i))) place = absurd (omega arith)
 
 -- The call of one more term is noted: the heads and inputs are those of one term more.
-pub calls-noted : (terms : List Term) (t : ℕ) {kind : Kind} {heads inputs heads′ inputs′ : List ℕ} → t < length heads → 3 * t + 2 < length inputs → kindAt terms t ≡ kind → heads′ ≡ set heads t (headOf kind) → inputs′ ≡ stored inputs (3 * t) (inputOf kind 0) (inputOf kind 1) (inputOf kind 2) → Calls terms t heads inputs → Calls terms (t + 1) heads′ inputs′
+pub calls-noted : (terms : List Term) (t : ℕ) {kind : Kind} {heads inputs heads′ inputs′ : List ℕ} → t < length heads → 3 * t + 2 < length inputs → kindAt terms t ≡ kind → heads′ ≡ set heads t (headOf kind) → inputs′ ≡ stored inputs (3 * t) (inputOf kind 0) (inputOf kind 1) (inputOf kind 2) → LookupsNoted terms t heads inputs → LookupsNoted terms (t + 1) heads′ inputs′
 calls-noted terms t {kind} {heads} {inputs} {heads′} {inputs′} short wide e head-is inputs-are calls =
     record {
       head = λ s below. ap (λ l. getD l s 0) head-is ∙ head-at s below (ℕ-discrete s t);

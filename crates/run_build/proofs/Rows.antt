@@ -19,12 +19,12 @@ use Rattle.rules_run.specs.Row.{COLUMNS, TERMS, Row, Table, row}
 use Rattle.rules_run.specs.Build.{builtColumn, built}
 use Rattle.run_table.specs.declared.Step.{Step}
 use Rattle.run_table.specs.declared.Step.the-variants.{Done, Refused}
-use Rattle.run_table.specs.Held.{listed, rowAt, tableAt, SoundTo, finished}
+use Rattle.run_table.specs.Held.{listed, rowAt, tableAt, SoundTo, stepped}
 use Rattle.run_table.specs.Loop.{Kept}
-use Rattle.run_table.specs.Calls.{Calls, NotesKept}
-use Rattle.run_table.specs.Sparse.{Sparse, Linked, pendingOf}
+use Rattle.run_table.specs.Notes.{LookupsNoted, NotesKept}
+use Rattle.run_table.specs.Sets.{Sparse, Linked, pendingOf}
 use Rattle.run_table.proofs.Columns.{table-length, kept-itself, kept-within, kept-then}
-use Rattle.run_table.proofs.Turns.{finished-done, finished-refused, refused-not-done}
+use Rattle.run_table.proofs.Turns.{stepped-done, stepped-refused, refused-not-done}
 use Rattle.run_build_row.specs.Built.{RowBuilt}
 use Rattle.run_build.specs.Built.{TableBuilt}
 use Rattle.run_build.specs.Links.{Opened}
@@ -51,7 +51,7 @@ pub record Rising (terms : List Term) (t : ℕ) (nums₀ dens₀ nums dens : Lis
   pub kept : Kept 0 (65 * t) nums₀ dens₀ nums dens
   pub notes : NotesKept t heads₀ inputs₀ heads inputs
   pub sound : SoundTo (65 * t) nums dens
-  pub calls : Calls terms t heads inputs
+  pub calls : LookupsNoted terms t heads inputs
 
 module _ (terms : List Term) (nums₀ dens₀ : List ℤ) (heads₀ inputs₀ : List ℕ) where
   pub rising-starts : Rising terms 0 nums₀ dens₀ nums₀ dens₀ heads₀ inputs₀ heads₀ inputs₀
@@ -78,12 +78,12 @@ module _ (terms : List Term) (nums₀ dens₀ : List ℤ) (heads₀ inputs₀ : 
           rising .remains ∙ built-next terms t (tableAt t nums dens) below (table-length t nums dens) ∙ ap (λ m. m >>= λ r. built (drop (t + 1) terms) (tableAt t nums dens ++ (r ∷ []))) e
 
       -- One row more is built.
-      pub rising-goes-on : {heads′ inputs′ : List ℕ} → step ≡ Done → NotesKept (t + 1) heads₀ inputs₀ heads′ inputs′ → Calls terms (t + 1) heads′ inputs′ → Rising terms (t + 1) nums₀ dens₀ nums′ dens′ heads₀ inputs₀ heads′ inputs′
+      pub rising-goes-on : {heads′ inputs′ : List ℕ} → step ≡ Done → NotesKept (t + 1) heads₀ inputs₀ heads′ inputs′ → LookupsNoted terms (t + 1) heads′ inputs′ → Rising terms (t + 1) nums₀ dens₀ nums′ dens′ heads₀ inputs₀ heads′ inputs′
       unfolding _>>=_
       rising-goes-on done notes calls =
           record {
             remains =
-                remains-next (made (rowAt nums′ dens′ (65 * t))) (finished-done (row-built .ends) done)
+                remains-next (made (rowAt nums′ dens′ (65 * t))) (stepped-done (row-built .ends) done)
                 ∙ ap (λ table. built (drop (t + 1) terms) (table ++ (rowAt nums′ dens′ (65 * t) ∷ []))) (sym (table-kept t (row-built .kept)))
                 ∙ ap (built (drop (t + 1) terms)) (sym (table-more t nums′ dens′));
             kept = kept-more (rising .kept) (row-built .kept) (t + 1) (omega arith);
@@ -94,10 +94,10 @@ module _ (terms : List Term) (nums₀ dens₀ : List ℤ) (heads₀ inputs₀ : 
 
       -- The next row is refused: so is the table.
       pub rising-stops : {heads′ inputs′ sets : List ℕ} (n number : ℕ) → n ≡ length terms → NotesKept n heads₀ inputs₀ heads′ inputs′ → step ≡ Refused number → TableBuilt terms n (Refused number) nums₀ dens₀ nums′ dens′ heads₀ inputs₀ heads′ inputs′ sets
-      unfolding finished _>>=_
+      unfolding stepped _>>=_
       rising-stops n number sized notes stops =
           record {
-            ends = remains-next (stopped number) (finished-refused (rowAt nums′ dens′ (65 * t)) (row-built .ends) stops);
+            ends = remains-next (stopped number) (stepped-refused (rowAt nums′ dens′ (65 * t)) (row-built .ends) stops);
             kept = kept-more (rising .kept) (row-built .kept) n (omega arith);
             notes = notes;
             sound = λ done. absurd (refused-not-done done);
@@ -110,7 +110,7 @@ module _ (terms : List Term) (nums₀ dens₀ : List ℤ) (heads₀ inputs₀ : 
 
   -- All rows are built, and the sets are noted.
   pub rising-ends : (n : ℕ) {nums dens : List ℤ} {heads inputs sets : List ℕ} → n ≡ length terms → Rising terms n nums₀ dens₀ nums dens heads₀ inputs₀ heads inputs → Sparse n nums sets → Linked n heads inputs sets → ((j : ℕ) → j < 64 → holds (pendingOf sets) j ≡ true) → Opened n heads sets → TableBuilt terms n Done nums₀ dens₀ nums dens heads₀ inputs₀ heads inputs sets
-  unfolding finished built
+  unfolding stepped built
   rising-ends n {nums} {dens} sized rising sparse linked pending opened =
       record {
         ends = rising .remains ∙ ap (λ rest. built rest (tableAt n nums dens)) (ap (λ k. drop k terms) sized ∙ drop-length terms);

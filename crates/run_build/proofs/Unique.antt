@@ -10,7 +10,7 @@ use Rattle.rules_problem.specs.declared.Term.{Term}
 use Rattle.run_table.specs.declared.Step.{Step}
 use Rattle.run_table.specs.declared.Step.the-variants.{Done}
 use Rattle.run_table.specs.Held.{tableAt}
-use Rattle.run_table.specs.Calls.{headOf, inputOf}
+use Rattle.run_table.specs.Notes.{headOf, inputOf}
 use Rattle.run_table.proofs.Determined.{step-determined, done-determined, table-determined, lists-determined}
 use Rattle.run_table.proofs.Unique.{calls-determined}
 use Rattle.run_build.specs.Built.{TableBuilt}

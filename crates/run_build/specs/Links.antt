@@ -7,7 +7,7 @@ use mathlib.Core.List.{List}
 use Prim.Native.Nat.{ℕ, _+_, _*_, _≤_, _<_}
 use lib.ListN.{getD}
 use Rattle.set_members.specs.Sets.{holds}
-use Rattle.run_table.specs.Sparse.{usersOf, earlierOf, openOf}
+use Rattle.run_table.specs.Sets.{usersOf, earlierOf, openOf}
 
 -- each input noted of the terms below n has a set of users: it is below 64
 pub record InputsSmall (n : ℕ) (inputs : List ℕ) : Type 0 where

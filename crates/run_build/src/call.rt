@@ -4,7 +4,7 @@ use rules_problem::Term;
 ghost use mathlib.Core.Path.{_≡_};
 ghost use Prim.Native.Nat.{_+_, _*_, _<_};
 ghost use lib.ListN.{length, set};
-ghost use Rattle.run_table.specs.Calls.{headOf, inputOf};
+ghost use Rattle.run_table.specs.Notes.{headOf, inputOf};
 ghost use Rattle.run_build_row.specs.Buildable.{Below};
 
 // A lookup's head, 256 for each input plus the symbol, and its inputs; 0 where there is none.

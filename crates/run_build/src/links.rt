@@ -8,7 +8,7 @@ ghost use mathlib.Core.Bool.{true};
 ghost use Prim.Native.Nat.{ℕ, _+_, _<_};
 ghost use lib.ListN.{length, getD};
 ghost use Rattle.set_members.specs.Sets.{holds};
-ghost use Rattle.run_table.specs.Sparse.{usersOf, Linked};
+ghost use Rattle.run_table.specs.Sets.{usersOf, Linked};
 ghost use Rattle.run_build.specs.Links.{InputsSmall, UsedBelow, Traced, Opened, Grown};
 
 // Lookup t uses this input.

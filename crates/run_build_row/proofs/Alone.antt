@@ -27,7 +27,7 @@ use Rattle.rules_run.specs.Build.{alone}
 use Rattle.run_table.specs.declared.Step.the-variants.{Done}
 use Rattle.run_table.specs.Held.{heldAt, SoundTo}
 use Rattle.run_table.specs.Loop.{RowMade}
-use Rattle.run_table.specs.Sparse.{Within}
+use Rattle.run_table.specs.Sets.{Within}
 use Rattle.run_table.proofs.Rows.{making-starts, making-goes-on}
 use Rattle.run_table.proofs.Sparse.{making-skips, within-set, within-other}
 use Rattle.run_table.proofs.Turns.{turns-end}

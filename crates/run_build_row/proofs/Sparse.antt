@@ -29,7 +29,7 @@ use Rattle.rules_run.specs.Row.{TERMS, constant, cell}
 use Rattle.rules_run.specs.Build.{alone, builtColumn}
 use Rattle.run_table.specs.Held.{heldAt, tableAt, SoundTo}
 use Rattle.run_table.specs.Loop.{Kept}
-use Rattle.run_table.specs.Sparse.{Within, Sparse, columnsOf}
+use Rattle.run_table.specs.Sets.{Within, Sparse, columnsOf}
 use Rattle.run_table.proofs.Sparse.{zero-numerator, within-set, within-other}
 use Rattle.run_fill.specs.Filled.{Filled}
 use Rattle.run_build_row.specs.Buildable.{Below}

@@ -12,7 +12,7 @@ use Rattle.fraction.specs.Exact.{ℚ, zeroℚ}
 use Rattle.fraction.specs.Made.{Made, made}
 use Rattle.rules_problem.specs.declared.Kind.{Kind}
 use Rattle.rules_problem.specs.declared.Kind.the-variants.{Variable, Constant, Gain, Sum, Difference, Lookup1, Lookup2, Lookup3}
-use Rattle.run_table.specs.Sparse.{columnsOf}
+use Rattle.run_table.specs.Sets.{columnsOf}
 
 -- Whether column c, one of a term, can hold something else than 0 in the row of term `own`: an unknown stands in its own column, and
 -- what is made of earlier rows has no columns but theirs.

@@ -17,7 +17,7 @@ ghost use Rattle.fraction_reduce.specs.Values.{Good, Answers};
 ghost use Rattle.rules_run.specs.Build.{alone, builtColumn};
 ghost use Rattle.run_table.specs.Held.{heldAt, tableAt, SoundTo};
 ghost use Rattle.run_table.specs.Loop.{Kept, RowMade};
-ghost use Rattle.run_table.specs.Sparse.{Within, Sparse};
+ghost use Rattle.run_table.specs.Sets.{Within, Sparse};
 ghost use Rattle.run_build_row.specs.Buildable.{Written, Holding, Below, Buildable, Combined};
 ghost use Rattle.run_build_row.specs.Built.{RowBuilt};
 ghost use Rattle.run_build_row.specs.Lowered.{Lowered};

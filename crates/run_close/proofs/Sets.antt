@@ -24,7 +24,7 @@ use Rattle.laws_invariant.proofs.Keeps.{merge-keeps-equal}
 use Rattle.laws_invariant.proofs.Meets.{merge-meets}
 use Rattle.laws_invariant.proofs.Rows.{sameRows-equal}
 use Rattle.run_table.specs.Held.{tableAt}
-use Rattle.run_table.specs.Sparse.{Within, columnsOf, pendingOf, openOf, Linked, Stirred}
+use Rattle.run_table.specs.Sets.{Within, columnsOf, pendingOf, openOf, Linked, Stirred}
 use Rattle.run_due_pair.specs.Found.{Lookups, InputsBelow, Twin, Shut, Waits, Looked, Finds, Watched, Awake}
 use Rattle.run_due_pair.proofs.Heads.{due-heads}
 use Rattle.run_due_pair.proofs.Twins.{rows-kept, shut-kept}

@@ -20,7 +20,7 @@ use Rattle.rules_run.specs.Close.{due, closeFor, close}
 use Rattle.rules_run.specs.Run.{byNumber}
 use Rattle.laws_invariant.proofs.Due.{due-some}
 use Rattle.run_table.specs.Loop.{Kept}
-use Rattle.run_table.specs.Sparse.{pendingOf, openOf}
+use Rattle.run_table.specs.Sets.{pendingOf, openOf}
 use Rattle.run_table.specs.Work.{Work, tableOf}
 use Rattle.run_table.proofs.Columns.{kept-itself, kept-then}
 use Rattle.run_due_pair.specs.Found.{Lookups, Below, Looked, pairOf}

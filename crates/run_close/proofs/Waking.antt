@@ -13,7 +13,7 @@ use lib.Seq.{getD-set-same, getD-set-other}
 use Rattle.set_members.specs.Sets.{holds}
 use Rattle.set_members.proofs.Digits.{holds-none}
 use Rattle.set_extremes.specs.Extremes.{Next}
-use Rattle.run_table.specs.Sparse.{earlierOf, pendingOf, openOf}
+use Rattle.run_table.specs.Sets.{earlierOf, pendingOf, openOf}
 use Rattle.run_due_pair.specs.Found.{Waits}
 use Rattle.run_close.specs.Woken.{isWoken, Grown, Woken}
 

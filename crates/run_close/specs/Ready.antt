@@ -2,7 +2,7 @@
 -- Main definitions: `withSets`, `Ready`, `Resting`. Assume nothing.
 use mathlib.Core.List.{List, []}
 use Prim.Native.Nat.{ℕ}
-use Rattle.run_table.specs.Sparse.{Linked}
+use Rattle.run_table.specs.Sets.{Linked}
 use Rattle.run_table.specs.Work.{Work, Rows}
 use Rattle.run_due_pair.specs.Contract.{Noted, Watching}
 

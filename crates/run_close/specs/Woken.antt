@@ -7,7 +7,7 @@ use mathlib.Core.List.{List}
 use Prim.Native.Nat.{ℕ, _<_}
 use lib.ListN.{length, getD}
 use Rattle.set_members.specs.Sets.{holds}
-use Rattle.run_table.specs.Sparse.{earlierOf, pendingOf, openOf}
+use Rattle.run_table.specs.Sets.{earlierOf, pendingOf, openOf}
 use Rattle.run_due_pair.specs.Found.{Waits}
 
 -- whether lookup j is to be compared with i: an open one before it of its function, where one of the two is pending

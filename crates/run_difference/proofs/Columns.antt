@@ -18,7 +18,7 @@ use Rattle.fraction_reduce.proofs.Tests.{zero-passes}
 use Rattle.rules_run.specs.Row.{TERMS, COLUMNS, column}
 use Rattle.run_table.specs.Held.{heldAt, rowAt, SoundTo}
 use Rattle.run_table.specs.Loop.{Making}
-use Rattle.run_table.specs.Sparse.{Within}
+use Rattle.run_table.specs.Sets.{Within}
 use Rattle.run_table.proofs.Columns.{column-held}
 use Rattle.run_table.proofs.Sparse.{making-skips, within-value}
 

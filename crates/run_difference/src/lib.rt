@@ -9,7 +9,7 @@ ghost use Rattle.fraction.specs.Limits.{minus};
 ghost use Rattle.rules_run.specs.Row.{column};
 ghost use Rattle.run_table.specs.Held.{rowAt, SoundTo};
 ghost use Rattle.run_table.specs.Loop.{RowMade};
-ghost use Rattle.run_table.specs.Sparse.{Within};
+ghost use Rattle.run_table.specs.Sets.{Within};
 
 // 01, Merge: "take the difference of the two rows". Its columns are made and tested in rising order; where both rows hold 0, so does it.
 pub fn difference(

@@ -15,7 +15,7 @@ use Rattle.rules_problem.specs.declared.Term.{Term}
 use Rattle.rules_problem.specs.Lookup.{Call, callOf, inputsOf, sameFunction, alike, kindAt}
 use Rattle.rules_run.specs.Row.{Table, sameRow}
 use Rattle.rules_run.specs.Close.{sameRows, isDue}
-use Rattle.run_table.specs.Calls.{headOf, inputOf, Calls}
+use Rattle.run_table.specs.Notes.{headOf, inputOf, LookupsNoted}
 use Rattle.run_equal_rows.proofs.Equal.{row-itself}
 use Rattle.run_due_pair.specs.Found.{symbolOf, Lookups, InputsBelow, sameInput, sameInputs}
 
@@ -122,7 +122,7 @@ rows-places table (suc count) (t ∷ ts) (u ∷ us) e h =
     ap (λ b. sameRow table t u && b) (rows-places table count ts us (omega arith) (omega arith) ∙ sym (later table count 0 t u ts us))
 
 -- Inputs that are terms are so in the list.
-pub inputs-below : {terms : List Term} {n : ℕ} {heads inputs : List ℕ} → Calls terms n heads inputs → ((t i : ℕ) → t < n → i < 3 → inputOf (kindAt terms t) i < n) → InputsBelow n inputs
+pub inputs-below : {terms : List Term} {n : ℕ} {heads inputs : List ℕ} → LookupsNoted terms n heads inputs → ((t i : ℕ) → t < n → i < 3 → inputOf (kindAt terms t) i < n) → InputsBelow n inputs
 inputs-below {n = n} calls own = record { below = λ t i p q. subst (λ x. x < n) (sym (calls .input t i p q)) (own t i p q) }
 
 module _ (terms : List Term) (n : ℕ) (heads inputs : List ℕ) (lookups : Lookups terms n heads inputs) (table : Table) (i j : ℕ) (p : i < n) (q : j < n) where

@@ -17,7 +17,7 @@ use Rattle.rules_run.specs.Row.{Table}
 use Rattle.rules_run.specs.Close.{isDue, due}
 use Rattle.laws_invariant.proofs.Due.{first-none}
 use Rattle.laws_invariant.proofs.Pivot.{last-or-before}
-use Rattle.run_table.specs.Sparse.{pendingOf, openOf}
+use Rattle.run_table.specs.Sets.{pendingOf, openOf}
 use Rattle.run_due_pair.specs.Found.{pairFor, leftFor, pairAmong, leftAmong, Shut, Waits, Passed, Looked, Watched}
 use Rattle.run_due_pair.proofs.Search.{first-agrees, first-nowhere, pair-given, pair-none, among-searched, due-searched}
 use Rattle.run_due_pair.proofs.Twins.{twin-left, twin-right, due-calls}

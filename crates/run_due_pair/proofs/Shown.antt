@@ -12,8 +12,8 @@ use Rattle.rules_problem.specs.declared.Kind.the-variants.{Variable, Lookup1}
 use Rattle.rules_problem.specs.declared.Term.{Term}
 use Rattle.rules_problem.specs.Lookup.{callOf, inputsOf, kindAt}
 use Rattle.rules_run.specs.Row.{Table}
-use Rattle.run_table.specs.Calls.{headOf, inputOf, Calls}
-use Rattle.run_table.specs.Sparse.{usersOf, earlierOf, pendingOf, openOf, Linked}
+use Rattle.run_table.specs.Notes.{headOf, inputOf, LookupsNoted}
+use Rattle.run_table.specs.Sets.{usersOf, earlierOf, pendingOf, openOf, Linked}
 use Rattle.run_due_pair.specs.Found.{symbolOf, Lookups, InputsBelow, Awake}
 use Rattle.run_due_pair.proofs.Heads.{inputs-below}
 use Rattle.run_due_pair.proofs.Woken.{all-awake}

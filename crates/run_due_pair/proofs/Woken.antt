@@ -19,7 +19,7 @@ use Rattle.rules_run.specs.Row.{Table, COLUMNS, sameTo, sameRow}
 use Rattle.rules_run.specs.Close.{isDue, due}
 use Rattle.laws_invariant.proofs.Due.{none-due}
 use Rattle.run_table.specs.Held.{rowAt, tableAt}
-use Rattle.run_table.specs.Sparse.{usersOf, pendingOf, openOf, Linked, Stirred}
+use Rattle.run_table.specs.Sets.{usersOf, pendingOf, openOf, Linked, Stirred}
 use Rattle.run_table.proofs.Linked.{linked-same}
 use Rattle.run_equal_rows.proofs.Equal.{same-rows}
 use Rattle.run_due_pair.specs.Found.{Lookups, InputsBelow, sameInput, sameInputs, Shut, Looked, Finds, Watched, Awake}

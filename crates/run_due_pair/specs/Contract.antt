@@ -6,7 +6,7 @@ use Prim.Native.Nat.{ℕ, _≤_}
 use lib.ListN.{length}
 use Rattle.rules_problem.specs.declared.Term.{Term}
 use Rattle.rules_run.specs.Close.{due}
-use Rattle.run_table.specs.Sparse.{pendingOf}
+use Rattle.run_table.specs.Sets.{pendingOf}
 use Rattle.run_table.specs.Work.{Work, tableOf, Rows}
 use Rattle.run_due_pair.specs.declared.Due.{Due}
 use Rattle.run_due_pair.specs.Found.{Lookups, InputsBelow, pairOf, Below, Watched}

@@ -15,8 +15,8 @@ use Rattle.rules_problem.specs.Lookup.{callOf, inputsOf, alike, kindAt}
 use Rattle.rules_problem.specs.Problem.{Pair}
 use Rattle.rules_run.specs.Row.{Table, sameRow}
 use Rattle.rules_run.specs.Close.{sameRows, isDue, first}
-use Rattle.run_table.specs.Calls.{Calls}
-use Rattle.run_table.specs.Sparse.{pendingOf, openOf}
+use Rattle.run_table.specs.Notes.{LookupsNoted}
+use Rattle.run_table.specs.Sets.{pendingOf, openOf}
 use Rattle.run_due_pair.specs.declared.Due.{Due}
 use Rattle.run_due_pair.specs.declared.Due.the-variants.{Pair as Found, Closed}
 
@@ -27,7 +27,7 @@ symbolOf kind = elim (callOf kind) [ none ↦ 0 | some call ↦ call .symbol ]
 -- The lists hold the lookups of n terms, whose symbols are bytes: heads then tell functions apart.
 pub record Lookups (terms : List Term) (n : ℕ) (heads inputs : List ℕ) : Type 0 where
   pub count : length terms ≡ n
-  pub calls : Calls terms n heads inputs
+  pub calls : LookupsNoted terms n heads inputs
   pub symbols : (t : ℕ) → t < n → symbolOf (kindAt terms t) < 256
 
 -- Every input is a term.

@@ -21,7 +21,7 @@ use Rattle.rules_run.specs.Row.{Row, Table, TERMS, COLUMNS, column, rowOf, cell
 use Rattle.laws_invariant.proofs.Rows.{sameRow-equal}
 use Rattle.run_table.specs.Held.{heldAt, rowAt, tableAt, SoundTo}
 use Rattle.set_members.specs.Sets.{holds}
-use Rattle.run_table.specs.Sparse.{Within}
+use Rattle.run_table.specs.Sets.{Within}
 use Rattle.run_table.proofs.Columns.{column-held, row-held}
 use Rattle.run_table.proofs.Sparse.{zero-numerator}
 

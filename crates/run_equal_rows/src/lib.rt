@@ -12,7 +12,7 @@ ghost use Rattle.fraction.specs.Exact.{value, eqℚ};
 ghost use Rattle.fraction_reduce.specs.Values.{Good};
 ghost use Rattle.rules_run.specs.Row.{COLUMNS, column, sameTo, sameRow};
 ghost use Rattle.run_table.specs.Held.{rowAt, tableAt, SoundTo};
-ghost use Rattle.run_table.specs.Sparse.{Within, Sparse};
+ghost use Rattle.run_table.specs.Sets.{Within, Sparse};
 
 // In lowest terms, equal fractions have the same two numbers.
 fn same_fraction(a: Fraction, b: Fraction) -> bool

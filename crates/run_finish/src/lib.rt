@@ -12,7 +12,7 @@ ghost use Rattle.rules_problem.specs.Problem.{Pair};
 ghost use Rattle.rules_run.specs.Run.{judged};
 ghost use Rattle.rules_outcome.specs.Outcome.{finished, cutShort, after};
 ghost use Rattle.run_table.specs.Held.{tableAt, SoundTo};
-ghost use Rattle.run_table.specs.Sparse.{Sparse};
+ghost use Rattle.run_table.specs.Sets.{Sparse};
 ghost use Rattle.run_finish.specs.Leaves.{leaves};
 
 // The denominators of rows n to 63 become 1. A fill of one row has a length that the compiler knows, and unrolls.

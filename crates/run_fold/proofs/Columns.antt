@@ -22,7 +22,7 @@ use Rattle.run_table.specs.declared.Step.{Step}
 use Rattle.run_table.specs.declared.Step.the-variants.{Done}
 use Rattle.run_table.specs.Held.{heldAt, rowAt, SoundTo}
 use Rattle.run_table.specs.Loop.{Making, RowMade}
-use Rattle.run_table.specs.Sparse.{Within}
+use Rattle.run_table.specs.Sets.{Within}
 use Rattle.run_table.proofs.Columns.{column-held, column-first, kept-itself}
 use Rattle.run_table.proofs.Rows.{making-ends}
 use Rattle.run_table.proofs.Sparse.{zero-numerator}

@@ -26,11 +26,11 @@ use Rattle.run_table.specs.declared.Step.{Step}
 use Rattle.run_table.specs.declared.Step.the-variants.{Done}
 use Rattle.run_table.specs.Held.{heldAt, rowAt, SoundTo}
 use Rattle.run_table.specs.Loop.{Kept, RowMade}
-use Rattle.run_table.specs.Sparse.{Within, columnsOf, usersOf, pendingOf, Sparse, Stirred}
+use Rattle.run_table.specs.Sets.{Within, columnsOf, usersOf, pendingOf, Sparse, Stirred}
 use Rattle.run_table.proofs.Columns.{column-held, kept-row}
 use Rattle.run_table.proofs.Sparse.{zero-numerator, stirred-itself}
 use Rattle.run_table.proofs.Stirred.{within-kept}
-use Rattle.run_table.proofs.Turns.{finished-done}
+use Rattle.run_table.proofs.Turns.{stepped-done}
 use Rattle.run_fold.specs.Sets.{Noted, Turn}
 use Rattle.run_fold.proofs.Cells.{folded-solved}
 use Rattle.run_fold.proofs.Columns.{column-stands}
@@ -58,7 +58,7 @@ numerator-zero good none = sym (value-num good) ∙ ap (λ q. q .num) none
 column-made : {g : ℕ → Made ℕ ℚ} {base m : ℕ} {step : Step} {nums₀ dens₀ nums dens : List ℤ} → RowMade g base m step nums₀ dens₀ nums dens → step ≡ Done → (c : ℕ) → c < 65 → g c ≡ made (value (heldAt nums dens (base + c)))
 unfolding row column
 column-made {g} {base} {nums = nums} {dens} turn done c below =
-    let all : row g ≡ made (rowAt nums dens base) = finished-done (turn .ends) done in
+    let all : row g ≡ made (rowAt nums dens base) = stepped-done (turn .ends) done in
     rw zero-add at (tab-member g COLUMNS 0 (rowAt nums dens base) all zeroℚ c below) ∙ ap made (column-held nums dens base c below)
 
 -- A number that was put into no set, and is not the one that was taken out, was in neither.

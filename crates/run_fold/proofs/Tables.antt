@@ -15,12 +15,12 @@ use Rattle.rules_run.specs.Row.{TERMS, COLUMNS, Row, row, rowOf}
 use Rattle.rules_run.specs.Merge.{foldedColumn, folded}
 use Rattle.run_table.specs.declared.Step.{Step}
 use Rattle.run_table.specs.declared.Step.the-variants.{Done, Refused}
-use Rattle.run_table.specs.Held.{rowAt, tableAt, SoundTo, finished}
+use Rattle.run_table.specs.Held.{rowAt, tableAt, SoundTo, stepped}
 use Rattle.run_table.specs.Loop.{Kept, RowMade}
 use Rattle.run_table.proofs.Columns.{row-held, table-length, kept-itself, kept-row, kept-within, kept-then, sound-fewer, sound-beyond}
 use Rattle.run_table.proofs.Rows.{tab-listed}
 use Rattle.run_table.proofs.Sparse.{zero-numerator}
-use Rattle.run_table.proofs.Turns.{finished-done, finished-refused}
+use Rattle.run_table.proofs.Turns.{stepped-done, stepped-refused}
 use Rattle.run_fold.specs.Rows.{Passed}
 use Rattle.run_fold.proofs.Columns.{row-passed}
 
@@ -42,7 +42,7 @@ passed-more {p = p} {from} {t} {nums} below none passed =
 -- what a fold of all rows leaves
 abbrev pub Folded : (p : ℕ) (form : Row) (n : ℕ) (step : Step) (nums₀ dens₀ nums dens : List ℤ) → Type 0
 Folded p form n step nums₀ dens₀ nums dens =
-    (folded p form (tableAt n nums₀ dens₀) ≡ finished step (tableAt n nums dens)) × (Kept 0 (65 * n) nums₀ dens₀ nums dens × SoundTo (65 * n) nums dens)
+    (folded p form (tableAt n nums₀ dens₀) ≡ stepped step (tableAt n nums dens)) × (Kept 0 (65 * n) nums₀ dens₀ nums dens × SoundTo (65 * n) nums dens)
 
 module _ {p : ℕ} {form : Row} {n : ℕ} {nums₀ dens₀ : List ℤ} where
   pub folding-starts : SoundTo (65 * n) nums₀ dens₀ → Folding p form n 0 nums₀ dens₀ nums₀ dens₀
@@ -55,7 +55,7 @@ module _ {p : ℕ} {form : Row} {n : ℕ} {nums₀ dens₀ : List ℤ} where
 
   module _ {t : ℕ} {nums dens nums′ dens′ : List ℤ} {step : Step} (below : t < n) (folding : Folding p form n t nums₀ dens₀ nums dens) (turn : RowMade (foldedColumn p form (rowAt nums dens (65 * t))) (65 * t) (65 * t + 65) step nums dens nums′ dens′) where
     -- The rule's row t is the one that the turn reads.
-    row-read : row (foldedColumn p form (rowOf (tableAt n nums₀ dens₀) t)) ≡ finished step (rowAt nums′ dens′ (65 * t))
+    row-read : row (foldedColumn p form (rowOf (tableAt n nums₀ dens₀) t)) ≡ stepped step (rowAt nums′ dens′ (65 * t))
     row-read =
         ap (λ r. row (foldedColumn p form r)) (row-held n nums₀ dens₀ t below ∙ sym (kept-row (folding .kept) (65 * t) (inr (omega arith)))) ∙ turn .ends
 
@@ -67,7 +67,7 @@ module _ {p : ℕ} {form : Row} {n : ℕ} {nums₀ dens₀ : List ℤ} where
 
     -- One row more is folded.
     pub folding-goes-on : step ≡ Done → Folding p form n (t + 1) nums₀ dens₀ nums′ dens′
-    unfolding finished
+    unfolding stepped
     folding-goes-on done =
         record {
           kept = all-kept (65 * (t + 1)) (omega arith);
@@ -76,22 +76,22 @@ module _ {p : ℕ} {form : Row} {n : ℕ} {nums₀ dens₀ : List ℤ} where
         }
       where
         by : (s : ℕ) → s < t + 1 → Dec (s ≡ t) → row (foldedColumn p form (rowOf (tableAt n nums₀ dens₀) s)) ≡ made (rowAt nums′ dens′ (65 * s))
-        by s less (yes same) = rw same (finished-done row-read done)
+        by s less (yes same) = rw same (stepped-done row-read done)
         by s less (no other) = folding .folded-below s (omega arith) ∙ ap made (sym (kept-row (turn .kept) (65 * s) (inl (omega arith))))
 
     -- A row is refused: the fold is.
     pub folding-stops : {number : ℕ} → step ≡ Refused number → Folded p form n (Refused number) nums₀ dens₀ nums′ dens′
-    unfolding folded finished
+    unfolding folded stepped
     folding-stops {number} refused = (
       ap (λ count. tab count 0 (λ s. row (foldedColumn p form (rowOf (tableAt n nums₀ dens₀) s)))) (table-length n nums₀ dens₀)
           ∙ tab-stopped (λ s. row (foldedColumn p form (rowOf (tableAt n nums₀ dens₀) s))) n 0 t number below (λ s h. (rowAt nums dens (65 * s), rw zero-add (folding .folded-below s h)))
-          (rw zero-add (finished-refused _ row-read refused)),
+          (rw zero-add (stepped-refused _ row-read refused)),
       (all-kept (65 * n) (omega arith), all-sound),
     )
 
   -- Rows that hold 0 at p are their own folds: nothing is done, and they are folded.
   pub folding-passes : (form-nums form-dens : List ℤ) → form ≡ rowAt form-nums form-dens 0 → p < 64 → {from r : ℕ} {nums dens : List ℤ} → Passed n p from r nums → Folding p form n from nums₀ dens₀ nums dens → Folding p form n r nums₀ dens₀ nums dens
-  unfolding finished
+  unfolding stepped
   folding-passes form-nums form-dens is unknown {from} {r} {nums} {dens} passed folding =
       record {
         kept = kept-within (folding .kept) 0 (65 * r) (omega arith) (omega (arith, passed .forward));
@@ -110,7 +110,7 @@ module _ {p : ℕ} {form : Row} {n : ℕ} {nums₀ dens₀ : List ℤ} where
 
   -- All rows are folded: the table is.
   pub folding-ends : {t : ℕ} {nums dens : List ℤ} → t ≡ n → Folding p form n t nums₀ dens₀ nums dens → Folded p form n Done nums₀ dens₀ nums dens
-  unfolding folded finished tableAt
+  unfolding folded stepped tableAt
   folding-ends {t} {nums} {dens} all folding = (
     ap (λ count. tab count 0 (λ s. row (foldedColumn p form (rowOf (tableAt n nums₀ dens₀) s)))) (table-length n nums₀ dens₀)
         ∙ tab-listed (λ s. row (foldedColumn p form (rowOf (tableAt n nums₀ dens₀) s))) (λ s. rowAt nums dens (65 * s)) n 0 (λ s below. rw zero-add (folding .folded-below s (omega arith))),

@@ -12,7 +12,7 @@ use Rattle.rules_run.specs.Row.{Row}
 use Rattle.run_table.specs.declared.Step.{Step}
 use Rattle.run_table.specs.declared.Step.the-variants.{Done}
 use Rattle.run_table.specs.Held.{tableAt}
-use Rattle.run_table.specs.Sparse.{columnsOf, pendingOf}
+use Rattle.run_table.specs.Sets.{columnsOf, pendingOf}
 use Rattle.run_table.proofs.Determined.{step-determined, done-determined, table-determined, lists-determined}
 use Rattle.run_fold.specs.Sets.{Noted}
 use Rattle.run_fold.proofs.Tables.{Folded}

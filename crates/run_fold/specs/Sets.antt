@@ -9,7 +9,7 @@ use lib.Dec.{eqb}
 use lib.IntN.{ℤ}
 use lib.ListN.{length, getD}
 use Rattle.set_members.specs.Sets.{holds}
-use Rattle.run_table.specs.Sparse.{columnsOf, usersOf, pendingOf}
+use Rattle.run_table.specs.Sets.{columnsOf, usersOf, pendingOf}
 
 -- The form of p, with the columns of `set`, comes into row t: the row has its columns and those, without p; the users of t are
 -- pending, with what was; nothing else changes.

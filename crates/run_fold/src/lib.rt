@@ -13,9 +13,9 @@ ghost use Rattle.set_members.specs.Sets.{holds};
 ghost use Rattle.fraction.specs.Exact.{value};
 ghost use Rattle.fraction_reduce.specs.Values.{Good, Answers};
 ghost use Rattle.rules_run.specs.Merge.{foldedColumn, folded};
-ghost use Rattle.run_table.specs.Held.{rowAt, tableAt, SoundTo, finished};
+ghost use Rattle.run_table.specs.Held.{rowAt, tableAt, SoundTo, stepped};
 ghost use Rattle.run_table.specs.Loop.{Kept, RowMade};
-ghost use Rattle.run_table.specs.Sparse.{Within, Sparse, Stirred};
+ghost use Rattle.run_table.specs.Sets.{Within, Sparse, Stirred};
 ghost use Rattle.run_table.specs.declared.Step.the-variants.{Done};
 ghost use Rattle.run_fold.specs.Cell.{gainedBy, reached, gainedColumn};
 ghost use Rattle.run_fold.specs.Sets.{Noted, Turn};
@@ -185,7 +185,7 @@ pub fn fold_rows(
     requires { ⌜ holds set p ≡ true ⌝ }
     requires { ⌜ length (now sets) ≡ 194 ⌝ }
     requires { ⌜ Sparse n (now nums) (now sets) ⌝ }
-    ensures { λ r. ⌜ folded p (rowAt (now («form_nums» .entry)) (now («form_dens» .entry)) 0) (tableAt n (now (nums .entry)) (now (dens .entry))) ≡ finished r (tableAt n (now (nums .exit)) (now (dens .exit))) ⌝ }
+    ensures { λ r. ⌜ folded p (rowAt (now («form_nums» .entry)) (now («form_dens» .entry)) 0) (tableAt n (now (nums .entry)) (now (dens .entry))) ≡ stepped r (tableAt n (now (nums .exit)) (now (dens .exit))) ⌝ }
     ensures { λ r. ⌜ Kept 0 (65 * n) (now (nums .entry)) (now (dens .entry)) (now (nums .exit)) (now (dens .exit)) ⌝ }
     ensures { λ r. ⌜ SoundTo (65 * n) (now (nums .exit)) (now (dens .exit)) ⌝ }
     ensures { λ r. ⌜ (r ≡ Done → Sparse n (now (nums .exit)) (now (sets .exit))) ⌝ }

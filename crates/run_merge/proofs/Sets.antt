@@ -4,7 +4,7 @@ use native.Mathlib.Nat.{zero-add}
 use native.Mathlib.Omega.{arith}
 use lib.ListN.{replicate, getD-replicate}
 use lib.IntN.{pos}
-use Rattle.run_table.specs.Sparse.{Within}
+use Rattle.run_table.specs.Sets.{Within}
 
 -- A row of zeros is within the empty set.
 pub within-zeros : Within 0 0 (replicate 65 (pos 0))

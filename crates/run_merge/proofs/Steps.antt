@@ -12,7 +12,7 @@ use Rattle.rules_run.specs.Merge.{difference, pivot, solvedColumn, folded, solv
 use Rattle.rules_run.specs.Run.{byNumber}
 use Rattle.run_table.specs.Held.{rowAt, SoundTo}
 use Rattle.run_table.specs.Loop.{Kept}
-use Rattle.run_table.specs.Sparse.{Sparse, Stirred}
+use Rattle.run_table.specs.Sets.{Sparse, Stirred}
 use Rattle.run_table.specs.Work.{Work, tableOf, Rows}
 use Rattle.run_table.proofs.Columns.{row-held, kept-itself}
 use Rattle.run_table.proofs.Sparse.{stirred-itself}

@@ -15,7 +15,7 @@ use Rattle.rules_run.specs.Merge.{outside, pivot, solve, settle, merge}
 use Rattle.rules_run.specs.Run.{byNumber}
 use Rattle.run_table.specs.Held.{rowAt, SoundTo}
 use Rattle.run_table.specs.Loop.{Kept}
-use Rattle.run_table.specs.Sparse.{Within, Sparse, Stirred}
+use Rattle.run_table.specs.Sets.{Within, Sparse, Stirred}
 use Rattle.run_table.specs.Work.{Work, tableOf, Rows}
 use Rattle.run_merge.specs.declared.Merged.{Merged}
 use Rattle.run_merge.specs.Outcome.{merged, Unstopped}

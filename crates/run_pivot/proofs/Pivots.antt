@@ -16,7 +16,7 @@ use Rattle.rules_run.specs.Row.{Row, column}
 use Rattle.rules_run.specs.Merge.{higher, pivot}
 use Rattle.rules_run.specs.Run.{byNumber}
 use Rattle.run_table.specs.Held.{rowAt, SoundTo}
-use Rattle.run_table.specs.Sparse.{Within}
+use Rattle.run_table.specs.Sets.{Within}
 use Rattle.run_difference.proofs.Columns.{column-nothing}
 
 -- a column above all that were found is the higher one

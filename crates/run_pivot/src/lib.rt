@@ -7,7 +7,7 @@ ghost use Rattle.rules_run.specs.Row.{TERMS};
 ghost use Rattle.rules_run.specs.Merge as rule;
 ghost use Rattle.rules_run.specs.Run.{byNumber};
 ghost use Rattle.run_table.specs.Held.{rowAt, SoundTo};
-ghost use Rattle.run_table.specs.Sparse.{Within};
+ghost use Rattle.run_table.specs.Sets.{Within};
 ghost use Rattle.run_pivot.specs.Pivoted.{pivoted, FoundIn};
 
 // The unknown that a difference solves, by its column; nothing where no unknown is left in it.

@@ -7,15 +7,15 @@ use native.Mathlib.Omega.{arith}
 use Rattle.fraction.specs.Made.{because}
 use Rattle.fraction.proofs.Making.{stopped-not-made}
 use Rattle.rules_run.specs.Run.{ends}
-use Rattle.run_close.specs.declared.Closed.{Closed}
-use Rattle.run_close.specs.declared.Closed.the-variants.{Going as Open, Contradiction, Refused}
+use Rattle.run_close.specs.declared.AfterClosing.{AfterClosing}
+use Rattle.run_close.specs.declared.AfterClosing.the-variants.{Going as Open, Contradiction, Refused}
 use Rattle.run_close.specs.Outcome.{closed, Counted, WhileOpen}
 use Rattle.run_progress.specs.declared.Ran.{Ran}
 use Rattle.run_progress.specs.declared.Ran.the-variants.{Going, Ended}
 use Rattle.run_progress.specs.Ran.{ran, WhileGoing, Places}
 
 -- A count that is at most one number is at most a greater one.
-pub counted-more : {few many : ℕ} (closing : Closed) → few ≤ many → Counted few closing → Counted many closing
+pub counted-more : {few many : ℕ} (closing : AfterClosing) → few ≤ many → Counted few closing → Counted many closing
 unfolding Counted
 counted-more (Open solved) more counted = omega (arith, more, counted)
 counted-more Contradiction more counted = tt
@@ -35,11 +35,11 @@ unfolding WhileGoing
 going-holds {holds} going held = subst (WhileGoing holds) going held
 
 -- Closing that has stopped ends the run.
-pub open-going : (holds : Type 0) {place : ℕ} {closing : Closed} {most : ℕ} {r : Ran} → Places place closing most r → WhileOpen holds closing → WhileGoing holds r
+pub open-going : (holds : Type 0) {place : ℕ} {closing : AfterClosing} {most : ℕ} {r : Ran} → Places place closing most r → WhileOpen holds closing → WhileGoing holds r
 unfolding because closed ran WhileOpen WhileGoing
 open-going holds {place} {closing} {r = r} places = by closing r (places .answers [])
   where
-    by : (closing : Closed) (r : Ran) → because (ends place) (closed closing []) ≡ ran r [] → WhileOpen holds closing → WhileGoing holds r
+    by : (closing : AfterClosing) (r : Ran) → because (ends place) (closed closing []) ≡ ran r [] → WhileOpen holds closing → WhileGoing holds r
     by closing (Ended answer) placed held = tt
     by (Open solved) (Going count) placed held = held
     by Contradiction (Going count) placed held = absurd (stopped-not-made placed)

@@ -12,7 +12,7 @@ use Rattle.rules_run.specs.Merge.{State}
 use Rattle.rules_run.specs.Run.{ends}
 use Rattle.run_table.specs.Work.{Work}
 use Rattle.run_due_pair.specs.Found.{Lookups}
-use Rattle.run_close.specs.declared.Closed.{Closed}
+use Rattle.run_close.specs.declared.AfterClosing.{AfterClosing}
 use Rattle.run_close.specs.Outcome.{closed}
 use Rattle.run_close.specs.Ready.{Resting}
 use Rattle.record_reader.specs.Held.{Held}
@@ -42,6 +42,6 @@ pub record Prepared (bytes : List ℕ) (n : ℕ) (heads inputs : List ℕ) (w : 
   pub resting : Resting n heads inputs w
 
 -- What `placed` ensures: a stop has its place.
-pub record Places (place : ℕ) (closing : Closed) (most : ℕ) (r : Ran) : Type 0 where
+pub record Places (place : ℕ) (closing : AfterClosing) (most : ℕ) (r : Ran) : Type 0 where
   pub answers : (table : Table) → because (ends place) (closed closing table) ≡ ran r table
   pub counted : AtMost most r

@@ -1,6 +1,6 @@
 // How far the run has come: it goes on, or has ended with an answer.
 use answer::Answer;
-use run_close::Closed;
+use run_close::AfterClosing;
 ghost use Rattle.run_close.specs.Outcome.{Counted};
 ghost use Rattle.run_progress.specs.Ran.{Places};
 
@@ -11,14 +11,14 @@ pub enum Ran {
 }
 
 // What closing at an assumption comes to: a stop gets its place.
-pub fn placed(place: usize, closing: Closed, most: usize) -> Ran
+pub fn placed(place: usize, closing: AfterClosing, most: usize) -> Ran
     requires { ⌜ Counted most closing ⌝ }
     ensures { λ r. ⌜ Places place closing most r ⌝ }
 {
     match closing {
-        Closed::Going(solved) => Ran::Going(solved),
-        Closed::Contradiction => Ran::Ended(Answer::Contradictory { place: place }),
-        Closed::Refused(number) => Ran::Ended(Answer::Refused {
+        AfterClosing::Going(solved) => Ran::Going(solved),
+        AfterClosing::Contradiction => Ran::Ended(Answer::Contradictory { place: place }),
+        AfterClosing::Refused(number) => Ran::Ended(Answer::Refused {
             number: number,
             place: place,
         }),

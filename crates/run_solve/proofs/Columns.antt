@@ -23,7 +23,7 @@ use Rattle.rules_run.specs.Merge.{solvedColumn}
 use Rattle.run_table.specs.declared.Step.{Step}
 use Rattle.run_table.specs.Held.{heldAt, rowAt, SoundTo}
 use Rattle.run_table.specs.Loop.{Making, RowMade}
-use Rattle.run_table.specs.Sparse.{Within}
+use Rattle.run_table.specs.Sets.{Within}
 use Rattle.run_table.proofs.Columns.{column-first}
 use Rattle.run_table.proofs.Sparse.{within-more}
 use Rattle.run_fold.specs.Cell.{reached}

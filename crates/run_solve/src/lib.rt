@@ -14,7 +14,7 @@ ghost use Rattle.fraction_reduce.specs.Values.{Good, Stands, Answers};
 ghost use Rattle.rules_run.specs.Merge.{solvedColumn};
 ghost use Rattle.run_table.specs.Held.{rowAt, SoundTo};
 ghost use Rattle.run_table.specs.Loop.{RowMade};
-ghost use Rattle.run_table.specs.Sparse.{Within};
+ghost use Rattle.run_table.specs.Sets.{Within};
 ghost use Rattle.set_members.specs.Sets.{holds};
 ghost use Rattle.run_fold.specs.Cell.{reached};
 ghost use Rattle.run_solve.specs.Cell.{scaledColumn};

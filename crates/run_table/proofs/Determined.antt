@@ -14,28 +14,28 @@ use Rattle.fraction_reduce.proofs.Lowest.{value-one-to-one}
 use Rattle.rules_run.specs.Row.{TERMS, COLUMNS, column, rowOf}
 use Rattle.run_table.specs.declared.Step.{Step}
 use Rattle.run_table.specs.declared.Step.the-variants.{Done, Refused}
-use Rattle.run_table.specs.Held.{heldAt, rowAt, tableAt, SoundTo, finished}
+use Rattle.run_table.specs.Held.{heldAt, rowAt, tableAt, SoundTo, stepped}
 use Rattle.run_table.specs.Loop.{Kept, RowMade}
 use Rattle.run_table.proofs.Columns.{column-held, row-held}
-use Rattle.run_table.proofs.Turns.{finished-done}
+use Rattle.run_table.proofs.Turns.{stepped-done}
 
 stepOf {ℓ} : {A : Type ℓ} → Made ℕ A → Step
 stepOf (made a) = Done
 stepOf (stopped number) = Refused number
 
-step-back {ℓ} : {A : Type ℓ} (step : Step) (a : A) → stepOf (finished step a) ≡ step
-unfolding finished stepOf
+step-back {ℓ} : {A : Type ℓ} (step : Step) (a : A) → stepOf (stepped step a) ≡ step
+unfolding stepped stepOf
 step-back Done a = refl
 step-back (Refused number) a = refl
 
 -- What the rule makes fixes how a step ends, and what it leaves where it is done.
-pub step-determined {ℓ} : {A : Type ℓ} {m : Made ℕ A} (r s : Step) (a b : A) → m ≡ finished r a → m ≡ finished s b → r ≡ s
+pub step-determined {ℓ} : {A : Type ℓ} {m : Made ℕ A} (r s : Step) (a b : A) → m ≡ stepped r a → m ≡ stepped s b → r ≡ s
 step-determined r s a b p q = sym (step-back r a) ∙ ap stepOf (sym p ∙ q) ∙ step-back s b
 
-pub done-determined {ℓ} : {A : Type ℓ} {m : Made ℕ A} (r s : Step) (a b : A) → m ≡ finished r a → m ≡ finished s b → r ≡ Done → a ≡ b
+pub done-determined {ℓ} : {A : Type ℓ} {m : Made ℕ A} (r s : Step) (a b : A) → m ≡ stepped r a → m ≡ stepped s b → r ≡ Done → a ≡ b
 done-determined r s a b p q done =
-    let first : _≡_ {A = Made ℕ _} _ (made a) = finished-done p done in
-    let second : _≡_ {A = Made ℕ _} _ (made b) = finished-done q (sym (step-determined r s a b p q) ∙ done) in
+    let first : _≡_ {A = Made ℕ _} _ (made a) = stepped-done p done in
+    let second : _≡_ {A = Made ℕ _} _ (made b) = stepped-done q (sym (step-determined r s a b p q) ∙ done) in
     cc
 
 module _ {nums dens nums′ dens′ : List ℤ} where

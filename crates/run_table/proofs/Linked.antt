@@ -7,7 +7,7 @@ use Prim.Native.Nat.{ℕ, _+_, _*_, _≤_, _<_}
 use native.Mathlib.Omega.{arith}
 use lib.ListN.{getD}
 use Rattle.set_members.specs.Sets.{holds}
-use Rattle.run_table.specs.Sparse.{usersOf, earlierOf, Linked}
+use Rattle.run_table.specs.Sets.{usersOf, earlierOf, Linked}
 
 -- What is linked stays so, where the sets of the links lose nothing.
 pub linked-kept : {n : ℕ} {heads inputs sets heads′ inputs′ sets′ : List ℕ} → n ≤ 64 → ((j k : ℕ) → j < n → k < 3 → getD inputs (3 * j + k) 0 < 64) → ((j : ℕ) → j < n → getD heads′ j 0 ≡ getD heads j 0) → ((k : ℕ) → k < 3 * n → getD inputs′ k 0 ≡ getD inputs k 0) → ((k j : ℕ) → 64 ≤ k → k < 128 + n → holds (getD sets k 0) j ≡ true → holds (getD sets′ k 0) j ≡ true) → Linked n heads inputs sets → Linked n heads′ inputs′ sets′

@@ -18,7 +18,7 @@ use Rattle.fraction_reduce.specs.Values.{Good}
 use Rattle.rules_run.specs.Row.{COLUMNS, row}
 use Rattle.run_table.specs.declared.Step.{Step}
 use Rattle.run_table.specs.declared.Step.the-variants.{Done, Refused}
-use Rattle.run_table.specs.Held.{heldAt, listed, rowAt, SoundTo, finished}
+use Rattle.run_table.specs.Held.{heldAt, listed, rowAt, SoundTo, stepped}
 use Rattle.run_table.specs.Loop.{Kept, Making, RowMade}
 
 -- A list each of whose members is made is made of them.
@@ -85,7 +85,7 @@ module _ (g : ℕ → Made ℕ ℚ) (base m : ℕ) (nums₀ dens₀ : List ℤ) 
 
   -- All columns are made: the row is.
   pub making-ends : {nums dens : List ℤ} → Making g base m COLUMNS nums₀ dens₀ nums dens → RowMade g base m Done nums₀ dens₀ nums dens
-  unfolding row rowAt finished
+  unfolding row rowAt stepped
   making-ends {nums} {dens} making =
       record {
         ends = tab-listed g (λ c. value (heldAt nums dens (base + c))) COLUMNS 0 (λ i below. rw zero-add (making .made-below i below));
@@ -95,7 +95,7 @@ module _ (g : ℕ → Made ℕ ℚ) (base m : ℕ) (nums₀ dens₀ : List ℤ) 
 
   -- The rule refuses a column: it refuses the row.
   pub making-stops : {nums dens : List ℤ} (j number : ℕ) → j < COLUMNS → g j ≡ stopped number → Making g base m j nums₀ dens₀ nums dens → RowMade g base m (Refused number) nums₀ dens₀ nums dens
-  unfolding row finished
+  unfolding row stepped
   making-stops {nums} {dens} j number below stops making =
       record {
         ends = tab-stopped g COLUMNS 0 j number below (λ c h. (value (heldAt nums dens (base + c)), rw zero-add (making .made-below c h))) (rw zero-add stops);

@@ -21,7 +21,7 @@ use Rattle.set_members.specs.Sets.{holds}
 use Rattle.set_extremes.specs.Extremes.{Next}
 use Rattle.run_table.specs.Held.{heldAt, SoundTo}
 use Rattle.run_table.specs.Loop.{Making}
-use Rattle.run_table.specs.Sparse.{Within, Stirred}
+use Rattle.run_table.specs.Sets.{Within, Stirred}
 
 -- Columns that the rule leaves as they are need no turn.
 pub making-skips : {g : ℕ → Made ℕ ℚ} {base m j : ℕ} (i : ℕ) {nums₀ dens₀ nums dens : List ℤ} → j ≤ i → ((c : ℕ) → j ≤ c → c < i → g c ≡ made (value (heldAt nums₀ dens₀ (base + c)))) → Making g base m j nums₀ dens₀ nums dens → Making g base m i nums₀ dens₀ nums dens

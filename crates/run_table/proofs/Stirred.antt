@@ -10,7 +10,7 @@ use lib.IntN.{ℤ}
 use Rattle.set_members.specs.Sets.{holds}
 use Rattle.run_table.specs.Held.{rowAt}
 use Rattle.run_table.specs.Loop.{Kept}
-use Rattle.run_table.specs.Sparse.{Within, usersOf, pendingOf, Stirred}
+use Rattle.run_table.specs.Sets.{Within, usersOf, pendingOf, Stirred}
 
 -- A row that keeps what it holds stays within its set.
 pub within-kept : {s base low high : ℕ} {nums₀ dens₀ nums dens : List ℤ} → Kept low high nums₀ dens₀ nums dens → (base + 65 ≤ low) ⊎ (high ≤ base) → Within s base nums₀ → Within s base nums

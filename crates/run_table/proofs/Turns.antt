@@ -1,5 +1,5 @@
 -- One turn of a loop over the columns of a row: what an operation answers is stored, or ends the loop; and how a step ends.
--- Main results: `turn-stores`, `turn-stops`, `turns-end`, `finished-done`, `finished-refused`, `refused-not-done`. Assume nothing.
+-- Main results: `turn-stores`, `turn-stops`, `turns-end`, `stepped-done`, `stepped-refused`, `refused-not-done`. Assume nothing.
 use mathlib.Core.Path.{_≡_, sym, ap, _∙_, subst, subst₂}
 use mathlib.Core.List.{List}
 use Prim.Native.Nat.{ℕ, _+_, _≤_, _<_}
@@ -16,7 +16,7 @@ use Rattle.fraction_reduce.proofs.Answered.{fits-made, fits-good, refused-stopp
 use Rattle.rules_run.specs.Row.{COLUMNS}
 use Rattle.run_table.specs.declared.Step.{Step}
 use Rattle.run_table.specs.declared.Step.the-variants.{Done, Refused as Stopped}
-use Rattle.run_table.specs.Held.{finished}
+use Rattle.run_table.specs.Held.{stepped}
 use Rattle.run_table.specs.Loop.{Making, RowMade}
 use Rattle.run_table.proofs.Rows.{making-goes-on, making-stops, making-ends}
 
@@ -39,13 +39,13 @@ turns-end {g} {base} {m} {j} {nums₀} {dens₀} {nums} {dens} making below abov
     making-ends g base m nums₀ dens₀ (subst (λ c. Making g base m c nums₀ dens₀ nums dens) all making)
 
 -- A step that is done makes what the lists hold then; one that is refused stops with its number.
-pub finished-done {ℓ} : {A : Type ℓ} {m : rule.Made ℕ A} {step : Step} {a : A} → m ≡ finished step a → step ≡ Done → m ≡ rule.made a
-unfolding finished
-finished-done {a = a} ends done = ends ∙ ap (λ step. finished step a) done
+pub stepped-done {ℓ} : {A : Type ℓ} {m : rule.Made ℕ A} {step : Step} {a : A} → m ≡ stepped step a → step ≡ Done → m ≡ rule.made a
+unfolding stepped
+stepped-done {a = a} ends done = ends ∙ ap (λ step. stepped step a) done
 
-pub finished-refused {ℓ} : {A : Type ℓ} {m : rule.Made ℕ A} {step : Step} (a : A) {number : ℕ} → m ≡ finished step a → step ≡ Stopped number → m ≡ rule.stopped number
-unfolding finished
-finished-refused a ends refused = ends ∙ ap (λ step. finished step a) refused
+pub stepped-refused {ℓ} : {A : Type ℓ} {m : rule.Made ℕ A} {step : Step} (a : A) {number : ℕ} → m ≡ stepped step a → step ≡ Stopped number → m ≡ rule.stopped number
+unfolding stepped
+stepped-refused a ends refused = ends ∙ ap (λ step. stepped step a) refused
 
 pub refused-not-done : {number : ℕ} → Stopped number ≡ Done → ⊥
 refused-not-done e = let never : _≡_ {A = ℕ} 0 1 = cc in omega arith

@@ -11,7 +11,7 @@ use lib.IntN.{ℤ}
 use Rattle.fraction.specs.declared.Fraction.{Fraction}
 use Rattle.rules_problem.specs.declared.Term.{Term}
 use Rattle.run_table.specs.Held.{heldAt}
-use Rattle.run_table.specs.Calls.{Calls, NotesKept}
+use Rattle.run_table.specs.Notes.{LookupsNoted, NotesKept}
 
 pub get-unique : (nums dens : List ℤ) (k : ℕ) (r s : Fraction) → r ≡ heldAt nums dens k → s ≡ heldAt nums dens k → r ≡ s
 get-unique nums dens k r s p q = p ∙ sym q
@@ -24,7 +24,7 @@ pub put-unique : (k : ℕ) (f : Fraction) (nums₀ dens₀ nums dens nums′ den
 put-unique k f nums₀ dens₀ nums dens nums′ dens′ first second = (first .0 ∙ sym (second .0), first .1 ∙ sym (second .1))
 
 -- Lists that differ from the same lists in the places of n terms alone, and hold the calls of the same terms there, are the same.
-pub calls-determined : {terms : List Term} {n : ℕ} {heads₀ inputs₀ heads inputs heads′ inputs′ : List ℕ} → NotesKept n heads₀ inputs₀ heads inputs → NotesKept n heads₀ inputs₀ heads′ inputs′ → Calls terms n heads inputs → Calls terms n heads′ inputs′ → (heads ≡ heads′) × (inputs ≡ inputs′)
+pub calls-determined : {terms : List Term} {n : ℕ} {heads₀ inputs₀ heads inputs heads′ inputs′ : List ℕ} → NotesKept n heads₀ inputs₀ heads inputs → NotesKept n heads₀ inputs₀ heads′ inputs′ → LookupsNoted terms n heads inputs → LookupsNoted terms n heads′ inputs′ → (heads ≡ heads′) × (inputs ≡ inputs′)
 calls-determined {n = n} {heads = heads} {inputs} {heads′} {inputs′} kept kept′ calls calls′ = (
   ext-getD 0 heads heads′ (kept .heads-length ∙ sym (kept′ .heads-length)) (λ k below. head k (decLt k n)),
   ext-getD 0 inputs inputs′ (kept .inputs-length ∙ sym (kept′ .inputs-length)) (λ k below. input k (decLt k (3 * n))),

@@ -10,7 +10,7 @@ use Rattle.fraction.specs.Exact.{ℚ, value}
 use Rattle.fraction.specs.Made.{Made, made}
 use Rattle.rules_run.specs.Row.{COLUMNS, row}
 use Rattle.run_table.specs.declared.Step.{Step}
-use Rattle.run_table.specs.Held.{heldAt, rowAt, SoundTo, finished}
+use Rattle.run_table.specs.Held.{heldAt, rowAt, SoundTo, stepped}
 
 -- Both lists keep their lengths, and every place but those from `base` up to `end` keeps what it holds.
 pub record Kept (base end : ℕ) (nums₀ dens₀ nums dens : List ℤ) : Type 0 where
@@ -27,6 +27,6 @@ pub record Making (g : ℕ → Made ℕ ℚ) (base m j : ℕ) (nums₀ dens₀ n
 
 -- The loop is over: the row at `base` is the one that the rule makes, or the rule refuses it; no other place has changed.
 pub record RowMade (g : ℕ → Made ℕ ℚ) (base m : ℕ) (step : Step) (nums₀ dens₀ nums dens : List ℤ) : Type 0 where
-  pub ends : row g ≡ finished step (rowAt nums dens base)
+  pub ends : row g ≡ stepped step (rowAt nums dens base)
   pub kept : Kept base (base + COLUMNS) nums₀ dens₀ nums dens
   pub sound : SoundTo m nums dens

@@ -9,7 +9,7 @@ use denote.Ref.{RefT, now}
 use denote.Triple.Both.{Both}
 use Rattle.rules_run.specs.Row.{Table}
 use Rattle.run_table.specs.Held.{tableAt, SoundTo}
-use Rattle.run_table.specs.Sparse.{Sparse}
+use Rattle.run_table.specs.Sets.{Sparse}
 
 pub record Work : Type 0 where
   pub nums : List ℤ

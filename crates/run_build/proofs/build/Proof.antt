@@ -12,8 +12,8 @@ use Rattle.fraction.specs.Made.{made}
 use Rattle.rules_problem.specs.Bits.{field}
 use Rattle.rules_problem.specs.Problem.{Problem, decoded}
 use Rattle.rules_problem.specs.Lookup.{kindAt}
-use Rattle.run_table.specs.Calls.{Calls, NotesKept}
-use Rattle.run_table.specs.Sparse.{Sparse, Linked, pendingOf}
+use Rattle.run_table.specs.Notes.{LookupsNoted, NotesKept}
+use Rattle.run_table.specs.Sets.{Sparse, Linked, pendingOf}
 use Rattle.run_table.specs.declared.Step.the-variants.{Done}
 use Rattle.run_build_row.specs.Buildable.{Written, Buildable}
 use Rattle.run_build_row.specs.Built.{RowBuilt}
@@ -75,7 +75,7 @@ note-call-requires c κs =
     ((within (read .before) .0, l .loop .inv .3 ∙ lengths .0, l .loop .inv .4 ∙ lengths .1), buildable read .inputs)
 
 -- the call of term t is noted
-noted : (c : tie.After-note-call Inv-loop μ-loop) → let read = c .before .before .before in let l = read .before .before in (p : Problem) → decoded (start l .args .bytes .now) ≡ made p → Calls (p .terms) (l .loop .t + 1) (c .note-call .last .1 .1 .0) (c .note-call .last .1 .1 .1 .0)
+noted : (c : tie.After-note-call Inv-loop μ-loop) → let read = c .before .before .before in let l = read .before .before in (p : Problem) → decoded (start l .args .bytes .now) ≡ made p → LookupsNoted (p .terms) (l .loop .t + 1) (c .note-call .last .1 .1 .0) (c .note-call .last .1 .1 .1 .0)
 noted c p e =
     let read = c .before .before .before in
     let l = read .before .before in

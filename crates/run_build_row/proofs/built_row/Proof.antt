@@ -7,7 +7,7 @@ use Rattle.rules_run.specs.Row.{COLUMNS, TERMS}
 use Rattle.rules_run.specs.Build.{builtColumn}
 use Rattle.run_table.specs.Held.{tableAt}
 use Rattle.run_table.specs.Loop.{Making}
-use Rattle.run_table.specs.Sparse.{Within}
+use Rattle.run_table.specs.Sets.{Within}
 use Rattle.run_table.proofs.Rows.{making-starts}
 use Rattle.run_table.proofs.Columns.{sound-fewer}
 use Rattle.run_table.proofs.Sparse.{making-skips}

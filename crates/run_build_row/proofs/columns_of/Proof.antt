@@ -3,7 +3,7 @@ use Rattle.run_build_row.specs.Buildable.{Below}
 use Rattle.run_build_row.specs.Sparse.{mayHold}
 use Rattle.set_members.proofs.Digits.{holds-none}
 use Rattle.rules_problem.specs.declared.Kind.{Kind}
-use Rattle.run_table.specs.Sparse.{columnsOf}
+use Rattle.run_table.specs.Sets.{columnsOf}
 use native.Mathlib.Omega.{arith}
 use Prim.Native.Nat.{ℕ, _<_}
 use mathlib.Core.Path.{_≡_, sym, ap, _∙_, subst}

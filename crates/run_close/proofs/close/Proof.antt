@@ -5,7 +5,7 @@ use mathlib.Core.List.{List}
 use Prim.Native.Nat.{ℕ, _-_}
 use native.Mathlib.Omega.{arith}
 use lib.ListN.{length, length-set}
-use Rattle.run_table.specs.Sparse.{pendingOf, openOf}
+use Rattle.run_table.specs.Sets.{pendingOf, openOf}
 use Rattle.run_table.specs.Work.{Work, lent}
 use Rattle.run_merge.specs.Contract.{leftBy}
 use Rattle.run_due_pair.specs.Contract.{waitingBy}

@@ -13,7 +13,7 @@ use Rattle.fraction_reduce.specs.Values.{Good, Answers}
 use Rattle.rules_run.specs.Row.{COLUMNS, TERMS, column}
 use Rattle.run_table.specs.Held.{rowAt}
 use Rattle.run_table.specs.Loop.{Making}
-use Rattle.run_table.specs.Sparse.{Within}
+use Rattle.run_table.specs.Sets.{Within}
 use Rattle.run_table.proofs.Rows.{making-starts}
 use Rattle.run_table.proofs.Sparse.{within-more, within-stores}
 use Rattle.run_table.proofs.Turns.{turn-stores, turn-stops, turns-end}

@@ -14,7 +14,7 @@ use Rattle.laws_invariant.proofs.Pivot.{last-or-before}
 use Rattle.rules_problem.specs.declared.Term.{Term}
 use Rattle.rules_run.specs.Row.{Table}
 use Rattle.run_table.specs.Held.{tableAt}
-use Rattle.run_table.specs.Sparse.{openOf}
+use Rattle.run_table.specs.Sets.{openOf}
 use Rattle.run_due_pair.specs.Found.{Lookups, leftFor, pairOf, Below, Waits, Watched}
 use Rattle.run_due_pair.proofs.Passed.{left-watched, rights-passed, watched-passed}
 use Rattle.run_due_pair.proofs.Search.{first-found, first-skips, first-nowhere, due-searched}

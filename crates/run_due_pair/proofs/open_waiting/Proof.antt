@@ -1,6 +1,6 @@
 -- `run_due_pair::open_waiting` meets its contract. Assumes nothing.
 use borrow.Author.Needs.{needs}
-use Rattle.run_table.specs.Sparse.{openOf}
+use Rattle.run_table.specs.Sets.{openOf}
 use Rattle.run_due_pair.proofs.open_waiting.Statement.{statement}
 use Rattle.run_due_pair.proofs.open_waiting.Tie as tie
 

@@ -1,6 +1,6 @@
 -- `run_equal_rows::same_row` meets its contract. Assumes nothing.
 use borrow.Author.Needs.{needs}
-use Rattle.run_table.specs.Sparse.{columnsOf}
+use Rattle.run_table.specs.Sets.{columnsOf}
 use Rattle.run_table.proofs.Sparse.{within-left, within-right}
 use Rattle.run_equal_rows.proofs.same_row.Statement.{statement}
 use Rattle.run_equal_rows.proofs.same_row.Tie as tie

@@ -6,7 +6,7 @@ use denote.Ref.{now}
 use Prim.Native.Nat.{_+_, _*_, _-_, _≤_}
 use native.Mathlib.Omega.{arith}
 use Rattle.run_table.specs.Held.{rowAt}
-use Rattle.run_table.specs.Sparse.{Sparse, Stirred}
+use Rattle.run_table.specs.Sets.{Sparse, Stirred}
 use Rattle.run_table.proofs.Columns.{sound-fewer}
 use Rattle.run_table.proofs.Sparse.{stirred-itself}
 use Rattle.run_table.proofs.Stirred.{stirred-then}

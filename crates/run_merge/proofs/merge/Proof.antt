@@ -5,9 +5,9 @@ use native.Mathlib.Omega.{arith}
 use Prim.Native.Nat.{_+_, _*_}
 use denote.Ref.{now}
 use Rattle.run_table.specs.Held.{tableAt}
-use Rattle.run_table.specs.Sparse.{columnsOf}
+use Rattle.run_table.specs.Sets.{columnsOf}
 use Rattle.run_table.proofs.Columns.{sound-zeros, sound-fewer, kept-itself}
-use Rattle.run_table.proofs.Turns.{finished-done, finished-refused}
+use Rattle.run_table.proofs.Turns.{stepped-done, stepped-refused}
 use Rattle.run_merge.specs.Outcome.{Unstopped}
 use Rattle.run_table.proofs.Sparse.{within-left, within-right}
 use Rattle.run_merge.proofs.Sets.{within-zeros}
@@ -97,7 +97,7 @@ same-length-3 : tie.Need-same-length-3
 same-length-3 c = search needs
 
 returns : tie.Need-returns
-returns c = search (difference-made, finished-done)
+returns c = search (difference-made, stepped-done)
 
 same-length-4 : tie.Need-same-length-4
 same-length-4 c = search needs
@@ -106,7 +106,7 @@ same-length-5 : tie.Need-same-length-5
 same-length-5 c = search needs
 
 returns-2 : tie.Need-returns-2
-returns-2 c = search (difference-refused, finished-refused)
+returns-2 c = search (difference-refused, stepped-refused)
 
 pub merge-spec : {M : Type 1} → statement M
 merge-spec =

@@ -5,7 +5,7 @@ use denote.Ref.{now}
 use Prim.Native.Nat.{_*_}
 use Rattle.run_table.specs.Held.{rowAt, tableAt}
 use Rattle.run_table.proofs.Columns.{kept-itself}
-use Rattle.run_table.proofs.Turns.{finished-done, finished-refused}
+use Rattle.run_table.proofs.Turns.{stepped-done, stepped-refused}
 use Rattle.run_merge.specs.Outcome.{Unstopped}
 use Rattle.run_merge.proofs.Steps.{form-refused, fold-refused, fold-made}
 use borrow.Author.Needs.{needs}
@@ -60,7 +60,7 @@ returns c =
     let form : tie.After-solve-for = search in
     let done = fold .fold-rows .ensures in
     let made = c .enum-told2 .given .1 in
-    fold-made (finished-done (form .solve-for .ensures .0 .ends) (told .enum-told .given .1)) (done .1 .0) (done .1 .1 .0) (done .1 .1 .1 .1) (finished-done (done .0) made) (done .1 .1 .1 .0 made)
+    fold-made (stepped-done (form .solve-for .ensures .0 .ends) (told .enum-told .given .1)) (done .1 .0) (done .1 .1 .0) (done .1 .1 .1 .1) (stepped-done (done .0) made) (done .1 .1 .1 .0 made)
 
 same-length-6 : tie.Need-same-length-6
 same-length-6 c = search needs
@@ -84,7 +84,7 @@ returns-2 c =
     let told : tie.After-enum-told = search in
     let form : tie.After-solve-for = search in
     let done = fold .fold-rows .ensures in
-    fold-refused (finished-done (form .solve-for .ensures .0 .ends) (told .enum-told .given .1)) (done .1 .0) (done .1 .1 .0) (done .1 .1 .1 .1) (finished-refused _ (done .0) (number .number .given .1))
+    fold-refused (stepped-done (form .solve-for .ensures .0 .ends) (told .enum-told .given .1)) (done .1 .0) (done .1 .1 .0) (done .1 .1 .1 .1) (stepped-refused _ (done .0) (number .number .given .1))
 
 same-length-11 : tie.Need-same-length-11
 same-length-11 c = search needs
@@ -93,7 +93,7 @@ same-length-12 : tie.Need-same-length-12
 same-length-12 c = search needs
 
 returns-3 : tie.Need-returns-3
-returns-3 c = search (form-refused, finished-refused)
+returns-3 c = search (form-refused, stepped-refused)
 
 pub solve-spec : {M : Type 1} → statement M
 solve-spec =

@@ -2,7 +2,7 @@ use Rattle.run_build.proofs.Noted.{no-call}
 use Rattle.run_build_row.specs.Buildable.{Below}
 use Rattle.rules_problem.specs.declared.Kind.{Kind}
 use Rattle.rules_problem.specs.Lookup.{callOf, inputsOf}
-use Rattle.run_table.specs.Calls.{headOf, inputOf}
+use Rattle.run_table.specs.Notes.{headOf, inputOf}
 use Prim.Native.Nat.{_<_}
 use native.Mathlib.Omega.{arith}
 use mathlib.Core.Path.{_≡_, refl, subst}

@@ -1,5 +1,5 @@
 use Rattle.run_build.proofs.Linking.{earlier-found, head-passed}
-use Rattle.run_table.specs.Sparse.{earlierOf}
+use Rattle.run_table.specs.Sets.{earlierOf}
 use native.Mathlib.Omega.{arith}
 use Prim.Native.Nat.{ℕ, _-_, _≤_, _<_}
 use lib.ListN.{getD}

@@ -1,5 +1,5 @@
 use Rattle.run_build.proofs.Linking.{user-grown, user-there}
-use Rattle.run_table.specs.Sparse.{usersOf}
+use Rattle.run_table.specs.Sets.{usersOf}
 use native.Mathlib.Omega.{arith}
 use Prim.Native.Nat.{_+_}
 use borrow.Author.Needs.{needs}

@@ -4,7 +4,7 @@ use mathlib.Core.Path.{sym, ap, _∙_}
 use mathlib.Core.Bool.{_&&_, or-true, or-false, and-true}
 use lib.ListN.{getD}
 use Rattle.set_members.specs.Sets.{holds}
-use Rattle.run_table.specs.Sparse.{earlierOf, pendingOf, openOf}
+use Rattle.run_table.specs.Sets.{earlierOf, pendingOf, openOf}
 use Rattle.run_close.proofs.wake.candidates.Statement.{statement}
 use Rattle.run_close.proofs.wake.candidates.Tie as tie
 

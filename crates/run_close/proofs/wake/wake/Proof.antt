@@ -4,7 +4,7 @@ use Prim.Native.Nat.{_+_, _-_, _<_}
 use native.Mathlib.Omega.{arith}
 use Rattle.set_extremes.specs.Extremes.{Next}
 use Rattle.set_extremes.proofs.Taken.{From, from-starts, from-first, from-here, from-rest}
-use Rattle.run_table.specs.Sparse.{pendingOf, openOf}
+use Rattle.run_table.specs.Sets.{pendingOf, openOf}
 use Rattle.run_close.proofs.Waking.{Waking, grown-itself, waking-skips, waking-more, woken-ends, woken-idle}
 use Rattle.run_close.proofs.wake.wake.Statement.{statement}
 use Rattle.run_close.proofs.wake.wake.Tie as tie

@@ -1,9 +1,9 @@
 -- The contract of `answer_numbers::in_numbers` leaves one answer.
 -- Main result: `in-numbers-unique`. Assumes nothing.
 use mathlib.Core.Path.{_≡_, sym, _∙_}
-use Rattle.answer.specs.declared.Answer.{Answer}
-use Rattle.answer_numbers.specs.declared.Told.{Told}
-use Rattle.answer_numbers.specs.Told.{told}
+use Rattle.unique.specs.Twice.{Twice}
+use Rattle.answer_numbers.proofs.in_numbers.Kinds.{ps, r}
+use Rattle.answer_numbers.proofs.in_numbers.Reads.{Post}
 
-pub in-numbers-unique : (answer : Answer) (r s : Told) → r ≡ told answer → s ≡ told answer → r ≡ s
-in-numbers-unique answer r s p q = p ∙ sym q
+pub in-numbers-unique : Twice ps r Post λ κs a x y end end′. x ≡ y
+in-numbers-unique κs a x y end end′ first second = first ∙ sym second

@@ -1,8 +1,7 @@
 // The decider and the listing for programs in C or Rust: numbers and slices only.
 use answer_numbers::in_numbers;
 use list_lines::Reached;
-ghost use mathlib.Core.Path.{_≡_};
-ghost use Rattle.export.specs.Handed.{Handed, Listed};
+ghost use Rattle.export.specs.Contract.{start, last, handed, Handed, RowHanded};
 
 // Decides one problem, as `decide::decide` does. Answers the word: 0 entailed, 1 not-entailed, 2 contradictory, 3 refused.
 #[no_mangle]
@@ -13,7 +12,7 @@ pub extern "C" fn hamzulaph_decide(
     number: &mut u8,
     figure: &mut usize,
 ) -> u8
-    ensures { λ r. ⌜ Handed (now (bytes .entry)) (now (nums .entry)) (now (dens .entry)) (now (nums .exit)) (now (dens .exit)) (record { word = r; number = now (number .exit); figure = now (figure .exit) }) ⌝ }
+    ensures { λ r. ⌜ Handed (start bytes) (start nums) (start dens) (last nums) (last dens) (handed r number figure) ⌝ }
 {
     let answer = decide::decide(bytes, nums, dens);
     let t = in_numbers(answer);
@@ -24,7 +23,7 @@ pub extern "C" fn hamzulaph_decide(
     t.word
 }
 
-// Lists row t at a place of the buffer, as `list_plain::row_into` does. Answers the new place reached, or the old one and the refusal's number.
+// Lists row t at a place of the buffer, as `list_lines::list_row_at` does. Answers the new place reached, or the old one and the refusal's number.
 #[no_mangle]
 pub extern "C" fn hamzulaph_list_row(
     buf: &mut [u8],
@@ -34,9 +33,9 @@ pub extern "C" fn hamzulaph_list_row(
     t: usize,
     number: &mut u8,
 ) -> usize
-    ensures { λ r. ⌜ Listed (now (nums .entry)) (now (dens .entry)) t at (now (buf .entry)) (now (buf .exit)) r (now (number .exit)) ⌝ }
+    ensures { λ r. ⌜ RowHanded (start nums) (start dens) t at (start buf) (last buf) r (last number) ⌝ }
 {
-    let reached = list_plain::row_into(buf, at, nums, dens, t);
+    let reached = list_lines::list_row_at(buf, at, nums, dens, t);
     match reached {
         Reached::At(place) => {
             *number = 0;

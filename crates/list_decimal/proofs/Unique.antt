@@ -1,11 +1,11 @@
--- The contract of `list_decimal::put_decimal` leaves one answer.
+-- The contract of `list_decimal::put_decimal` leaves one content of the buffer and one next place.
 -- Main result: `put-decimal-unique`. Assumes nothing.
 use mathlib.Core.Path.{_≡_}
-use mathlib.Core.List.{List}
-use Prim.Native.Nat.{ℕ}
-use Rattle.rules_listing.specs.Text.{decimal}
-use Rattle.list_text.specs.Wrote.{Wrote}
+use denote.Ref.{now}
+use Rattle.unique.specs.Twice.{Twice}
 use Rattle.list_text.proofs.Unique.{wrote-unique}
+use Rattle.list_decimal.proofs.put_decimal.Kinds.{ps, r}
+use Rattle.list_decimal.proofs.put_decimal.Reads.{Post}
 
-pub put-decimal-unique : (x place : ℕ) (before after after′ : List ℕ) (next next′ : ℕ) → Wrote (decimal x) place before after next → Wrote (decimal x) place before after′ next′ → (after ≡ after′) × (next ≡ next′)
-put-decimal-unique x = wrote-unique (decimal x)
+pub put-decimal-unique : Twice ps r Post λ κs a x y end end′. (now (end .0) ≡ now (end′ .0)) × (x ≡ y)
+put-decimal-unique κs a x y end end′ = wrote-unique _ _ _ _ _ _ _

@@ -1,13 +1,11 @@
 // Numbers in decimal, written into a lent buffer.
 use list_text::put_byte;
-ghost use Prim.Native.Nat.{_+_, _≤_};
-ghost use lib.ListN.{length};
 ghost use Rattle.rules_listing.specs.Text.{decimal};
-ghost use Rattle.list_text.specs.Wrote.{Wrote};
+ghost use Rattle.list_text.specs.Wrote.{Fits, Wrote};
 
-// The digits before the last are those of a tenth, rounded down.
+// Writes a number in decimal at a place, and says where the next text goes. The digits before the last are those of a tenth, rounded down.
 pub fn put_decimal(buf: &mut [u8], at: usize, x: u64) -> usize
-    requires { ⌜ at + length (decimal x) ≤ length (now buf) ⌝ }
+    requires { ⌜ Fits (decimal x) at (now buf) ⌝ }
     ensures { λ r. ⌜ Wrote (decimal x) at (now (buf .entry)) (now (buf .exit)) r ⌝ }
 {
     if x < 10 {

@@ -3,17 +3,12 @@ use answer::Answer;
 use list_decimal::put_decimal;
 use list_text::put_byte;
 use list_text::put_text;
-ghost use mathlib.Core.List.{_++_};
-ghost use Prim.Native.Nat.{_+_, _≤_};
-ghost use lib.ListN.{length};
-ghost use Rattle.rules_listing.specs.Text.{ascii, decimal};
-ghost use Rattle.rules_listing.specs.Line.{firstLine};
-ghost use Rattle.list_text.specs.Wrote.{Wrote};
+ghost use Rattle.list_first_line.specs.Contract.{SaidFits, SaidWritten, FirstFits, FirstWritten};
 
 // "word, place, count, or `refused`, number, place"
 fn put_said(buf: &mut [u8], at: usize, word: &[u8], first: usize, second: usize) -> usize
-    requires { ⌜ at + length (now word) + 42 ≤ length (now buf) ⌝ }
-    ensures { λ r. ⌜ Wrote (now (word .entry) ++ decimal first ++ ascii " " ++ decimal second ++ ascii "\n") at (now (buf .entry)) (now (buf .exit)) r ⌝ }
+    requires { ⌜ SaidFits (now word) at (now buf) ⌝ }
+    ensures { λ r. ⌜ SaidWritten (now (word .entry)) first second at (now (buf .entry)) (now (buf .exit)) r ⌝ }
 {
     let said = put_text(buf, at, word);
     let number = put_decimal(buf, said, first as u64);
@@ -22,10 +17,10 @@ fn put_said(buf: &mut [u8], at: usize, word: &[u8], first: usize, second: usize)
     put_byte(buf, end, b'\n')
 }
 
-// An answer by its word and its two numbers.
+// The first line of an answer at a place, by its word and its two numbers. Answers the place behind it.
 pub fn put_first(buf: &mut [u8], at: usize, answer: Answer) -> usize
-    requires { ⌜ at + 2048 ≤ length (now buf) ⌝ }
-    ensures { λ r. ⌜ Wrote (firstLine answer) at (now (buf .entry)) (now (buf .exit)) r ⌝ }
+    requires { ⌜ FirstFits at (now buf) ⌝ }
+    ensures { λ r. ⌜ FirstWritten answer at (now (buf .entry)) (now (buf .exit)) r ⌝ }
 {
     match answer {
         Answer::Entailed { solved } => put_said(buf, at, b"entailed ", 0, solved),

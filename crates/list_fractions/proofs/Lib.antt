@@ -1,3 +1,4 @@
 pub mod Fractions
 pub mod Places
+mod Tested
 pub mod Unique

@@ -1,5 +1,5 @@
 -- Rows that can be listed.
--- Main definitions: `Long`, `Listable`, `rowHeld`. Assumes nothing.
+-- Main definitions: `HoldRow`, `Listable`, `rowHeld`. Assumes nothing.
 use mathlib.Core.Path.{_≡_}
 use mathlib.Core.Bool.{true}
 use mathlib.Core.List.{List}
@@ -10,14 +10,14 @@ use Rattle.rules_run.specs.Row.{Row, TERMS, PLACES}
 use Rattle.rules_listing.specs.Listing.{allFractions, placesOf, heldRow}
 
 -- both lists hold row t
-pub record Long (t : ℕ) (nums dens : List ℤ) : Type 0 where
+pub record HoldRow (t : ℕ) (nums dens : List ℤ) : Type 0 where
   pub term : t < TERMS
   pub nums-long : PLACES ≤ length nums
   pub dens-long : PLACES ≤ length dens
 
 -- and each place of it is a fraction in lowest terms within the limits
 pub record Listable (t : ℕ) (nums dens : List ℤ) : Type 0 where
-  pub long : Long t nums dens
+  pub long : HoldRow t nums dens
   pub sound : allFractions (placesOf t nums) (placesOf t dens) ≡ true
 
 -- the row that the lists hold for term t

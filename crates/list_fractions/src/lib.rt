@@ -4,7 +4,7 @@ use whole_gcd::greatest;
 use whole_size::size;
 ghost use mathlib.Core.Path.{_≡_};
 ghost use Rattle.rules_listing.specs.Listing.{isFraction, allFractions, placesOf};
-ghost use Rattle.list_fractions.specs.Listable.{Long};
+ghost use Rattle.list_fractions.specs.Listable.{HoldRow};
 
 // 01, The run: the largest numerator and denominator.
 const LIMIT: u64 = 2147483647;
@@ -25,7 +25,7 @@ pub fn is_fraction(num: i32, den: i32) -> bool
 
 // Whether all places of row t hold such fractions.
 pub fn all_fractions(nums: &[i32], dens: &[i32], t: usize) -> bool
-    requires { ⌜ Long t (now nums) (now dens) ⌝ }
+    requires { ⌜ HoldRow t (now nums) (now dens) ⌝ }
     ensures { λ r. ⌜ r ≡ allFractions (placesOf t (now (nums .entry))) (placesOf t (now (dens .entry))) ⌝ }
 {
     let first = COLUMNS * t;

@@ -1,17 +1,20 @@
 -- Each contract leaves one answer.
--- Main results: `leaves-unique`, and a law NAME-unique for each public function NAME. Assume nothing.
+-- Main results: `listed-unique`, and a law NAME-unique for each public function NAME. Assume nothing.
 use mathlib.Core.Path.{_≡_, sym, ap, ap₂, _∙_}
 use mathlib.Core.List.{List}
 use Prim.Native.Nat.{ℕ}
 use native.Mathlib.Omega.{arith}
-use lib.IntN.{ℤ}
-use Rattle.answer.specs.declared.Answer.{Answer}
+use denote.Ref.{now}
+use Rattle.unique.specs.Twice.{Twice}
 use Rattle.answer.specs.Refusals.{Refusal}
 use Rattle.rules_problem.specs.Problem.{refuse}
-use Rattle.rules_listing.specs.Listing.{Listed, listRow}
 use Rattle.list_lines.specs.declared.Reached.{Reached}
 use Rattle.list_lines.specs.declared.Reached.the-variants.{At, Refused}
-use Rattle.list_lines.specs.Leaves.{reachedOf, leaves, listFirst}
+use Rattle.list_lines.specs.Contract.{reachedOf, listedBy}
+use Rattle.list_lines.proofs.list_row_at.Kinds as row-kinds
+use Rattle.list_lines.proofs.list_row_at.Reads as row-reads
+use Rattle.list_lines.proofs.first_line_at.Kinds as first-kinds
+use Rattle.list_lines.proofs.first_line_at.Reads as first-reads
 
 -- Different answers are different in the rule's terms.
 reached-one-to-one : (r s : Reached) → reachedOf r ≡ reachedOf s → r ≡ s
@@ -23,16 +26,13 @@ reached-one-to-one (Refused k p) (Refused l q) e =
     let same : _≡_ {A = Refusal} (record { number = k; place = p }) (record { number = l; place = q }) = cc in
     ap₂ Refused (ap (λ f. f .number) same) (ap (λ f. f .place) same)
 
-module _ (r s : Reached) (after after′ : List ℕ) where
-  -- What is left of a call tells its answer and the buffer.
-  pub leaves-unique : (left : Listed) → leaves r after ≡ left → leaves s after′ ≡ left → (r ≡ s) × (after ≡ after′)
-  unfolding leaves
-  leaves-unique left p q =
-      let same = p ∙ sym q in
-      (reached-one-to-one r s (ap (λ l. l .reached) same), ap (λ l. l .buffer) same)
+-- What is left of a call tells its answer and the buffer.
+pub listed-unique : (r s : Reached) (after after′ : List ℕ) → listedBy r after ≡ listedBy s after′ → (r ≡ s) × (after ≡ after′)
+unfolding listedBy
+listed-unique r s after after′ same = (reached-one-to-one r s (ap (λ l. l .reached) same), ap (λ l. l .buffer) same)
 
-  pub list-row-at-unique : (nums dens : List ℤ) (t place : ℕ) (before : List ℕ) → leaves r after ≡ listRow nums dens t place before → leaves s after′ ≡ listRow nums dens t place before → (r ≡ s) × (after ≡ after′)
-  list-row-at-unique nums dens t place before = leaves-unique (listRow nums dens t place before)
+pub list-row-at-unique : Twice row-kinds.ps row-kinds.r row-reads.Post λ κs a x y end end′. (x ≡ y) × (now (end .0) ≡ now (end′ .0))
+list-row-at-unique κs a x y end end′ first second = listed-unique x y _ _ (first .answers ∙ sym (second .answers))
 
-  pub first-line-at-unique : (answer : Answer) (place : ℕ) (before : List ℕ) → leaves r after ≡ listFirst answer place before → leaves s after′ ≡ listFirst answer place before → (r ≡ s) × (after ≡ after′)
-  first-line-at-unique answer place before = leaves-unique (listFirst answer place before)
+pub first-line-at-unique : Twice first-kinds.ps first-kinds.r first-reads.Post λ κs a x y end end′. (x ≡ y) × (now (end .0) ≡ now (end′ .0))
+first-line-at-unique κs a x y end end′ first second = listed-unique x y _ _ (first .answers ∙ sym (second .answers))

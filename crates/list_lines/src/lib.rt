@@ -5,16 +5,14 @@ use answer::SPACE;
 use list_first_line::put_first;
 use list_fractions::all_fractions;
 use list_row_line::put_row;
+use rules_listing::ROOM;
 use rules_problem::PLACES;
 use rules_problem::TERMS;
 ghost use mathlib.Core.Path.{_≡_};
 ghost use Prim.Native.Nat.{_+_};
 ghost use lib.Dec.{leb};
-ghost use Rattle.rules_listing.specs.Listing.{listRow};
-ghost use Rattle.list_lines.specs.Leaves.{leaves, listFirst};
-
-// 01, The listing: the bytes that have to follow the place reached.
-const ROOM: usize = 2048;
+ghost use Rattle.rules_listing.specs.Listing.{ROOM};
+ghost use Rattle.list_lines.specs.Contract.{ListsRow, ListsFirst};
 
 // What listing answers: the new place reached, or the number of its refusal and the old place.
 pub enum Reached {
@@ -24,7 +22,7 @@ pub enum Reached {
 
 // Whether enough bytes follow the place. The place may be beyond the end.
 fn has_room(len: usize, at: usize) -> bool
-    ensures { λ r. ⌜ r ≡ leb (at + 2048) len ⌝ }
+    ensures { λ r. ⌜ r ≡ leb (at + ROOM) len ⌝ }
 {
     if len < ROOM {
         return false;
@@ -32,9 +30,9 @@ fn has_room(len: usize, at: usize) -> bool
     at <= len - ROOM
 }
 
-// Lists row t at a place, or refuses and changes nothing.
+// Lists row t at a place, or refuses at the old place and changes nothing.
 pub fn list_row_at(buf: &mut [u8], at: usize, nums: &[i32], dens: &[i32], t: usize) -> Reached
-    ensures { λ r. ⌜ leaves r (now (buf .exit)) ≡ listRow (now (nums .entry)) (now (dens .entry)) t at (now (buf .entry)) ⌝ }
+    ensures { λ r. ⌜ ListsRow (now (nums .entry)) (now (dens .entry)) t at (now (buf .entry)) (now (buf .exit)) r ⌝ }
 {
     if !has_room(buf.len(), at) {
         return Reached::Refused {
@@ -69,14 +67,14 @@ pub fn list_row_at(buf: &mut [u8], at: usize, nums: &[i32], dens: &[i32], t: usi
     Reached::At(put_row(buf, at, nums, dens, t))
 }
 
-// Writes an answer's first line at a place, or refuses and changes nothing.
+// Writes an answer's first line at a place, or refuses, at place 0 as no row is listed, and changes nothing.
 pub fn first_line_at(buf: &mut [u8], at: usize, answer: Answer) -> Reached
-    ensures { λ r. ⌜ leaves r (now (buf .exit)) ≡ listFirst answer at (now (buf .entry)) ⌝ }
+    ensures { λ r. ⌜ ListsFirst answer at (now (buf .entry)) (now (buf .exit)) r ⌝ }
 {
     if !has_room(buf.len(), at) {
         return Reached::Refused {
             number: SPACE,
-            place: at,
+            place: 0,
         };
     }
     Reached::At(put_first(buf, at, answer))

@@ -1,3 +1,4 @@
-mod Behind
-mod Ends
+mod Count
+mod Listing
+mod Rows
 pub mod Unique

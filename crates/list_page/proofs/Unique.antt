@@ -1,11 +1,11 @@
--- The contract leaves one answer and one buffer.
+-- The contract of `list_page::listing_of` leaves one answer and one content of the buffer.
 -- Main result: `listing-of-unique`. Assumes nothing.
 use mathlib.Core.Path.{_≡_, sym, _∙_}
-use mathlib.Core.List.{List}
-use Prim.Native.Nat.{ℕ}
-use lib.IntN.{ℤ}
-use Rattle.answer.specs.declared.Answer.{Answer}
-use Rattle.list_page.specs.Page.{Paged}
+use denote.Ref.{now}
+use Rattle.unique.specs.Twice.{Twice}
+use Rattle.list_lines.proofs.Unique.{listed-unique}
+use Rattle.list_page.proofs.listing_of.Kinds.{ps, r}
+use Rattle.list_page.proofs.listing_of.Reads.{Post}
 
-pub listing-of-unique : (nums dens : List ℤ) (bytes : List ℕ) (answer : Answer) (before after after′ : List ℕ) (r s : ℕ) → Paged nums dens bytes answer before after r → Paged nums dens bytes answer before after′ s → (r ≡ s) × (after ≡ after′)
-listing-of-unique nums dens bytes answer before after after′ r s p q = (p .reached ∙ sym (q .reached), p .written ∙ sym (q .written))
+pub listing-of-unique : Twice ps r Post λ κs a x y end end′. (x ≡ y) × (now (end .0) ≡ now (end′ .0))
+listing-of-unique κs a x y end end′ first second = listed-unique x y _ _ (first .answers ∙ sym (second .answers))

@@ -1,3 +1,4 @@
 pub mod Rows
 pub mod Texts
 pub mod Unique
+mod Written

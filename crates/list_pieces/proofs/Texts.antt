@@ -20,7 +20,7 @@ use Rattle.rules_run.specs.Row.{Row, TERMS, constant, column}
 use Rattle.rules_listing.specs.Text.{ascii, decimal}
 use Rattle.rules_listing.specs.Line.{signOf, fractionText, termText, piece, pieces}
 use Rattle.list_decimal.proofs.Decimal.{decimal-length}
-use Rattle.list_pieces.specs.Over.{overText}
+use Rattle.list_pieces.specs.Contract.{overText}
 use Rattle.list_fractions.proofs.Fractions.{and-true, Shown}
 
 -- A whole number has no denominator; any other has a slash and its denominator.
@@ -36,18 +36,14 @@ pub top-fits : (top bottom : ℕ) → length (decimal top) ≤ length (overText 
 unfolding overText
 top-fits top bottom = omega (arith, length-append (decimal top) (cond (eqb bottom 1) [] (ascii "/" ++ decimal bottom)))
 
-pub over-more-length : (top bottom : ℕ) → (bottom ≡ 1 → ⊥) → length (overText top bottom) ≡ length (decimal top) + 1 + length (decimal bottom)
-unfolding ascii
-over-more-length top bottom more = ap length (over-more top bottom more) ∙ simp length-append
-
 -- The constant has no term; any other column has its own.
-pub term-of-constant : (c : ℕ) → c ≡ 64 → termText c ≡ []
+pub term-of-constant : (c : ℕ) → c ≡ constant → termText c ≡ []
 unfolding termText
-term-of-constant c is = rw (eq-eqb c 64 is)
+term-of-constant c is = rw (eq-eqb c constant is)
 
-pub term-of-column : (c : ℕ) → (c ≡ 64 → ⊥) → termText c ≡ ascii "*t" ++ decimal c
+pub term-of-column : (c : ℕ) → (c ≡ constant → ⊥) → termText c ≡ ascii "*t" ++ decimal c
 unfolding termText
-term-of-column c other = rw (ne-eqb c 64 other)
+term-of-column c other = rw (ne-eqb c constant other)
 
 -- a piece by the two numbers of its fraction
 byNumbers : (c : ℕ) (num : ℤ) (den : ℕ) → List ℕ

@@ -1,1 +1,1 @@
-pub mod Over
+pub mod Contract

@@ -5,22 +5,15 @@ use rules_problem::COLUMNS;
 use rules_problem::TERMS;
 use whole_size::size;
 ghost use mathlib.Core.Path.{_≡_};
-ghost use mathlib.Core.Bool.{true};
 ghost use mathlib.Core.List.{[], _∷_};
-ghost use Prim.Native.Nat.{_+_, _≤_};
-ghost use lib.ListN.{length};
-ghost use lib.IntN.{natAbs};
-ghost use Rattle.fraction.specs.Exact.{frac};
-ghost use Rattle.rules_run.specs.Row.{COLUMNS};
-ghost use Rattle.rules_listing.specs.Line.{signOf, termText, piece, pieces};
-ghost use Rattle.rules_listing.specs.Listing.{isFraction};
-ghost use Rattle.list_text.specs.Wrote.{Wrote};
-ghost use Rattle.list_fractions.specs.Listable.{Listable, rowHeld};
-ghost use Rattle.list_pieces.specs.Over.{overText};
+ghost use Rattle.rules_listing.specs.Line.{signOf, termText};
+ghost use Rattle.list_text.specs.Wrote.{Fits, Wrote};
+ghost use Rattle.list_pieces.specs.Contract.{overText, pieceOf, PieceFits, piecesOf, PiecesFit};
 
 // 01, The run: the column of the constant.
 const CONSTANT: usize = TERMS;
 
+// "a sign"
 fn sign(num: i32) -> u8
     ensures { λ r. ⌜ r ∷ [] ≡ signOf num ⌝ }
 {
@@ -29,7 +22,7 @@ fn sign(num: i32) -> u8
 
 // "the fraction (no denominator if 1)", without its sign
 fn put_over(buf: &mut [u8], at: usize, top: u64, bottom: u64) -> usize
-    requires { ⌜ at + length (overText top bottom) ≤ length (now buf) ⌝ }
+    requires { ⌜ Fits (overText top bottom) at (now buf) ⌝ }
     ensures { λ r. ⌜ Wrote (overText top bottom) at (now (buf .entry)) (now (buf .exit)) r ⌝ }
 {
     let next = put_decimal(buf, at, top);
@@ -42,7 +35,7 @@ fn put_over(buf: &mut [u8], at: usize, top: u64, bottom: u64) -> usize
 
 // "`*t` with the term number; the constant comes last without `*t`"
 fn put_term(buf: &mut [u8], at: usize, c: usize) -> usize
-    requires { ⌜ at + length (termText c) ≤ length (now buf) ⌝ }
+    requires { ⌜ Fits (termText c) at (now buf) ⌝ }
     ensures { λ r. ⌜ Wrote (termText c) at (now (buf .entry)) (now (buf .exit)) r ⌝ }
 {
     if c == CONSTANT {
@@ -55,9 +48,8 @@ fn put_term(buf: &mut [u8], at: usize, c: usize) -> usize
 
 // "A piece stands for a nonzero column": a blank, a sign, the fraction and the term.
 fn put_piece(buf: &mut [u8], at: usize, c: usize, num: i32, den: i32) -> usize
-    requires { ⌜ isFraction num den ≡ true ⌝ }
-    requires { ⌜ at + length (piece c (frac num (natAbs den))) ≤ length (now buf) ⌝ }
-    ensures { λ r. ⌜ Wrote (piece c (frac num (natAbs den))) at (now (buf .entry)) (now (buf .exit)) r ⌝ }
+    requires { ⌜ PieceFits c num den at (now buf) ⌝ }
+    ensures { λ r. ⌜ Wrote (pieceOf c num den) at (now (buf .entry)) (now (buf .exit)) r ⌝ }
 {
     let top = size(num);
     if top == 0 {
@@ -69,11 +61,10 @@ fn put_piece(buf: &mut [u8], at: usize, c: usize, num: i32, den: i32) -> usize
     put_term(buf, over, c)
 }
 
-// "columns rising"
+// The pieces of row t, "columns rising", at a place; answers the place behind them.
 pub fn put_pieces(buf: &mut [u8], at: usize, nums: &[i32], dens: &[i32], t: usize) -> usize
-    requires { ⌜ Listable t (now nums) (now dens) ⌝ }
-    requires { ⌜ at + 1755 ≤ length (now buf) ⌝ }
-    ensures { λ r. ⌜ Wrote (pieces COLUMNS (rowHeld t (now (nums .entry)) (now (dens .entry)))) at (now (buf .entry)) (now (buf .exit)) r ⌝ }
+    requires { ⌜ PiecesFit t (now nums) (now dens) at (now buf) ⌝ }
+    ensures { λ r. ⌜ Wrote (piecesOf (now (nums .entry)) (now (dens .entry)) t) at (now (buf .entry)) (now (buf .exit)) r ⌝ }
 {
     let base = COLUMNS * t;
     let mut next = at;

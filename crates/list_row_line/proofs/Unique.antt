@@ -1,13 +1,11 @@
--- The contract of `list_row_line::put_row` leaves one answer.
+-- The contract of `list_row_line::put_row` leaves one content of the buffer and one next place.
 -- Main result: `put-row-unique`. Assumes nothing.
 use mathlib.Core.Path.{_≡_}
-use mathlib.Core.List.{List}
-use Prim.Native.Nat.{ℕ}
-use lib.IntN.{ℤ}
-use Rattle.rules_listing.specs.Line.{rowLine}
-use Rattle.list_text.specs.Wrote.{Wrote}
+use denote.Ref.{now}
+use Rattle.unique.specs.Twice.{Twice}
 use Rattle.list_text.proofs.Unique.{wrote-unique}
-use Rattle.list_fractions.specs.Listable.{rowHeld}
+use Rattle.list_row_line.proofs.put_row.Kinds.{ps, r}
+use Rattle.list_row_line.proofs.put_row.Reads.{Post}
 
-pub put-row-unique : (t : ℕ) (nums dens : List ℤ) (place : ℕ) (before after after′ : List ℕ) (next next′ : ℕ) → Wrote (rowLine t (rowHeld t nums dens)) place before after next → Wrote (rowLine t (rowHeld t nums dens)) place before after′ next′ → (after ≡ after′) × (next ≡ next′)
-put-row-unique t nums dens = wrote-unique (rowLine t (rowHeld t nums dens))
+pub put-row-unique : Twice ps r Post λ κs a x y end end′. (now (end .0) ≡ now (end′ .0)) × (x ≡ y)
+put-row-unique κs a x y end end′ = wrote-unique _ _ _ _ _ _ _

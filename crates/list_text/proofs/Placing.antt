@@ -1,21 +1,23 @@
 -- Texts put into a buffer one after the other.
--- Main results: `put-at-then`, `wrote-nothing`, `wrote-byte`, `wrote-then`, `put-then`. Assume nothing.
+-- Main results: `take-put-at`, `put-at-then`, `wrote-nothing`, `wrote-byte`, `wrote-then`, `wrote-length`, `fits-then`, `wrote-both`, `begun-all`. Assume nothing.
 use mathlib.Core.Path.{_≡_, refl, sym, ap, _∙_}
 use mathlib.Core.List.{List, [], _∷_, _++_, append-nil, append-assoc}
 use Prim.Native.Nat.{ℕ, suc, _+_, _≤_, _<_}
-use native.Mathlib.Nat.{add-zero, add-assoc}
+use native.Mathlib.Nat.{add-zero, add-suc, add-assoc}
 use native.Mathlib.Numerals.{add-one}
-use lib.ListN.{length, take, drop, set, take-append-drop, length-append}
-use lib.Seq.{length-take-le, take-at, drop-at, drop-drop, set-split, append-snoc}
+use native.Mathlib.Omega.{arith}
+use lib.ListN.{length, take, drop, getD, set, take-append-drop, length-append, length-drop, length-set}
+use lib.Seq.{length-take-le, take-at, take-suc, take-all, drop-at, drop-drop, set-split, append-snoc}
 use Rattle.rules_listing.specs.Listing.{putAt}
-use Rattle.list_text.specs.Wrote.{Wrote}
+use Rattle.list_text.specs.Wrote.{Fits, Wrote}
 
 module _ (place : ℕ) (text buffer : List ℕ) (within : place ≤ length buffer) where
   -- what stands before the place, and the text
   head-length : length (take place buffer ++ text) ≡ place + length text
   head-length = length-append (take place buffer) text ∙ ap (λ n. n + length text) (length-take-le place buffer within)
 
-  take-put-at : take (place + length text) (putAt place text buffer) ≡ take place buffer ++ text
+  -- Up to its end stand what stood before the place, and the text.
+  pub take-put-at : take (place + length text) (putAt place text buffer) ≡ take place buffer ++ text
   unfolding putAt
   take-put-at = take-at (take place buffer ++ text) _ _ head-length
 
@@ -61,10 +63,54 @@ wrote-then {a} {b} {before} {place = place} within first second =
       reached = second .reached ∙ rw (first .reached, length-append a b) (add-assoc place (length a) (length b));
     }
 
--- A text stands at the place, and the buffer is as long as it was.
-abbrev pub Put : (text : List ℕ) (place : ℕ) (before after : List ℕ) (next : ℕ) → Type 0
-Put text place before after next = (length after ≡ length before) × Wrote text place before after next
+-- A text for which there is room leaves the buffer as long as it was.
+pub wrote-length : {text before after : List ℕ} {place next : ℕ} → Fits text place before → Wrote text place before after next → length after ≡ length before
+unfolding putAt
+wrote-length {text} {before} {place = place} fits wrote =
+    ap length (wrote .placed)
+    ∙ omega (
+      arith,
+      fits .room,
+      length-append (take place before ++ text) (drop (place + length text) before),
+      length-append (take place before) text,
+      length-take-le place before (omega (arith, fits .room)),
+      length-drop (place + length text) before,
+    )
 
--- One text more.
-pub put-then : {a b before between after : List ℕ} {place middle next : ℕ} → place ≤ length before → Put a place before between middle → length after ≡ length between → Wrote b middle between after next → Put (a ++ b) place before after next
-put-then within first same second = (same ∙ first .0, wrote-then within (first .1) second)
+-- Where there is room for two texts there is room for the first,
+pub fits-first : (a b : List ℕ) {buffer : List ℕ} {place : ℕ} → Fits (a ++ b) place buffer → Fits a place buffer
+fits-first a b fits = record { room = omega (arith, fits .room, length-append a b) }
+
+-- and behind it for the second.
+pub fits-then : {a b before between : List ℕ} {place middle : ℕ} → Fits (a ++ b) place before → Wrote a place before between middle → Fits b middle between
+fits-then {a} {b} fits wrote =
+    record { room = omega (arith, fits .room, length-append a b, wrote-length (fits-first a b fits) wrote, wrote .reached) }
+
+-- A text of which both parts are written is written.
+pub wrote-both : {a b before between after : List ℕ} {place middle next : ℕ} → Fits (a ++ b) place before → Wrote a place before between middle → Wrote b middle between after next → Wrote (a ++ b) place before after next
+wrote-both fits = wrote-then (omega (arith, fits .room))
+
+-- The first i bytes of a text are written, and the buffer is as long as it was:
+pub record Begun (text : List ℕ) (place i : ℕ) (before after : List ℕ) : Type 0 where
+  pub most : i ≤ length text
+  pub size : length after ≡ length before
+  pub wrote : Wrote (take i text) place before after (place + i)
+
+-- none of them,
+pub begun-none : (text : List ℕ) (place : ℕ) (buffer : List ℕ) → Begun text place 0 buffer buffer
+begun-none text place buffer = record { most = omega arith; size = refl; wrote = rw add-zero (wrote-nothing place buffer) }
+
+-- one more,
+pub begun-more : {text before after : List ℕ} {place i : ℕ} → Fits text place before → Begun text place i before after → i < length text → Begun text place (i + 1) before (set after (place + i) (getD text i 0))
+begun-more {text} {before} {after} {place} {i} fits begun more =
+    let within : place + i < length after = omega (arith, fits .room, begun .size) in
+    let first : place ≤ length before = omega (arith, fits .room) in
+    record {
+      most = omega arith;
+      size = simp length-set (begun .size);
+      wrote = rw (add-one, take-suc text i 0 more, add-suc, ← add-one) (wrote-then first (begun .wrote) (wrote-byte (place + i) (getD text i 0) after within));
+    }
+
+-- all.
+pub begun-all : {text before after : List ℕ} {place i : ℕ} → Begun text place i before after → length text ≤ i → Wrote text place before after (place + i)
+begun-all {text} {before} {after} {place} {i} begun all = rw (take-all i text all) at (begun .wrote)

@@ -1,2 +1,3 @@
-pub mod Held
+mod Again
+pub mod Lines
 pub mod Unique

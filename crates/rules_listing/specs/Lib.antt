@@ -1,3 +1,4 @@
 pub mod Line
 pub mod Listing
+pub mod Page
 pub mod Text

@@ -1,5 +1,5 @@
--- The program's whole output, and the listing of one row from the lent lists into a buffer.
--- Main definitions: `listing`, `listRow`. Assumes nothing.
+-- The program's whole output, and one line of it put into a buffer: the line of a row from the lent lists, and an answer's first line.
+-- Main definitions: `listing`, `ROOM`, `listRow`, `listFirst`. Assumes nothing.
 use mathlib.Core.Bool.{Bool, true, false, _&&_, cond}
 use mathlib.Core.List.{List, [], _∷_, _++_}
 use Prim.Native.Nat.{ℕ, suc, _+_, _*_}
@@ -8,6 +8,7 @@ use lib.Dec.{eqb, leb, ltb}
 use lib.IntN.{ℤ, pos, natAbs}
 use lib.Signed.{leZ}
 use Rattle.whole.specs.Gcd.{gcd}
+use Rattle.answer.specs.declared.Answer.{Answer}
 use Rattle.answer.specs.Refusals.{Refusal, SPACE, ROW}
 use Rattle.fraction.specs.Exact.{frac}
 use Rattle.fraction.specs.Limits.{limit}
@@ -51,7 +52,11 @@ heldRow [] denominators = []
 heldRow (num ∷ numerators) [] = []
 heldRow (num ∷ numerators) (den ∷ denominators) = frac num (natAbs den) ∷ heldRow numerators denominators
 
--- What listing one row leaves: "the new place reached, or on refusal the number and the old place", and the buffer.
+-- the line of the row that the lists hold for term t
+abbrev pub heldLine : (numerators denominators : List ℤ) → (t : ℕ) → List ℕ
+heldLine numerators denominators t = rowLine t (heldRow (placesOf t numerators) (placesOf t denominators))
+
+-- What listing leaves: "the new place reached, or on refusal the number and the old place", and the buffer.
 pub record Listed : Type 0 where
   pub reached : Made Refusal ℕ
   pub buffer : List ℕ
@@ -60,13 +65,30 @@ pub record Listed : Type 0 where
 unfoldable pub putAt : (place : ℕ) → (text buffer : List ℕ) → List ℕ
 putAt place text buffer = take place buffer ++ text ++ drop (place + length text) buffer
 
+-- a text that is listed at a place,
+abbrev pub writtenAt : (place : ℕ) → (text buffer : List ℕ) → Listed
+writtenAt place text buffer = record { reached = made (place + length text); buffer = putAt place text buffer }
+
+-- and a refusal, which "leaves every lent list and buffer unchanged"
+abbrev pub refusedAt : (number place : ℕ) → (buffer : List ℕ) → Listed
+refusedAt number place buffer = record { reached = refuse number place; buffer = buffer }
+
+-- 01, The listing: the bytes that have to follow the place reached, room for every line
+abbrev pub ROOM : ℕ
+ROOM = 2048
+
 -- "With fewer than 2,048 bytes after the place reached, or from short lists, it is refused with 1; then a row number above
 -- 63, or any place in that row that is not a fraction in lowest terms within the limits, with 8."
 unfoldable pub listRow : (numerators denominators : List ℤ) → (t place : ℕ) → (buffer : List ℕ) → Listed
 listRow numerators denominators t place buffer =
-    let line = rowLine t (heldRow (placesOf t numerators) (placesOf t denominators)) in
-    cond (leb (place + 2048) (length buffer) && leb PLACES (length numerators) && leb PLACES (length denominators))
+    cond (leb (place + ROOM) (length buffer) && leb PLACES (length numerators) && leb PLACES (length denominators))
     (cond (ltb t TERMS && allFractions (placesOf t numerators) (placesOf t denominators))
-    (record { reached = made (place + length line); buffer = putAt place line buffer })
-    (record { reached = refuse ROW place; buffer = buffer }))
-    (record { reached = refuse SPACE place; buffer = buffer })
+    (writtenAt place (heldLine numerators denominators t) buffer)
+    (refusedAt ROW place buffer))
+    (refusedAt SPACE place buffer)
+
+-- An answer's first line is refused as the line of a row is where there is no room. 01, What comes back: the place of refusal 1 is "0; the old
+-- place when listing a row"; this is no row.
+unfoldable pub listFirst : Answer → (place : ℕ) → (buffer : List ℕ) → Listed
+listFirst answer place buffer =
+    cond (leb (place + ROOM) (length buffer)) (writtenAt place (firstLine answer) buffer) (refusedAt SPACE 0 buffer)

@@ -3,6 +3,7 @@
 // word, count and all places of both lists, and `same` is written, or what differs. A line that begins with `#` is a remark, written as
 // it stands.
 use answer::Answer;
+use list_lines::Reached;
 use list_page::PAGE;
 use rules_problem::PLACES;
 
@@ -96,11 +97,16 @@ fn compare(
     compare_lists(nums, dens, base_nums, base_dens);
 }
 
+// The listing of a problem, or the number with which it is refused.
 fn write_listing(bytes: &[u8], answer: Answer, nums: &[i32], dens: &[i32]) {
     let mut text = [0u8; PAGE];
-    let end = list_page::listing_of(&mut text, bytes, answer, nums, dens);
-    let written = &text[0..end];
-    io::write_all(1, written);
+    match list_page::listing_of(&mut text, bytes, answer, nums, dens) {
+        Reached::At(end) => {
+            let written = &text[0..end];
+            io::write_all(1, written);
+        }
+        Reached::Refused { number, place: _ } => differs(b"not listed: ", number as usize),
+    }
 }
 
 // A problem that says the same as another, decided in lists of its own that hold something else before. A refused one is not compared.

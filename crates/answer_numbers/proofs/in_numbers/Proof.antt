@@ -1,7 +1,7 @@
 -- `answer_numbers::in_numbers` meets its contract. Assumes nothing.
 use mathlib.Core.Path.{ap, sym}
 use borrow.Author.Needs.{needs}
-use Rattle.answer_numbers.specs.Told.{told}
+use Rattle.answer_numbers.specs.Numbers.{numbersOf}
 use Rattle.answer_numbers.proofs.in_numbers.Statement.{statement}
 use Rattle.answer_numbers.proofs.in_numbers.Tie as tie
 
@@ -18,20 +18,20 @@ enum-known-answer-4 : tie.Need-enum-known-answer-4
 enum-known-answer-4 c = search needs
 
 returns : tie.Need-returns
-unfolding told
-returns c = sym (ap told (c .before .answer .given .1))
+unfolding numbersOf
+returns c = let known : tie.After-answer = search in sym (ap numbersOf (known .answer .given .1))
 
 returns-2 : tie.Need-returns-2
-unfolding told
-returns-2 c = sym (ap told (c .before .answer2 .given .1))
+unfolding numbersOf
+returns-2 c = let known : tie.After-answer2 = search in sym (ap numbersOf (known .answer2 .given .1))
 
 returns-3 : tie.Need-returns-3
-unfolding told
-returns-3 c = sym (ap told (c .before .answer3 .given .1))
+unfolding numbersOf
+returns-3 c = let known : tie.After-answer3 = search in sym (ap numbersOf (known .answer3 .given .1))
 
 returns-4 : tie.Need-returns-4
-unfolding told
-returns-4 c = sym (ap told (c .before .answer4 .given .1))
+unfolding numbersOf
+returns-4 c = let known : tie.After-answer4 = search in sym (ap numbersOf (known .answer4 .given .1))
 
 pub in-numbers-spec : {M : Type 1} → statement M
 in-numbers-spec =

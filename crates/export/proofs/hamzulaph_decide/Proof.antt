@@ -1,5 +1,5 @@
 -- `export::hamzulaph_decide` meets its contract. Assumes nothing.
-use mathlib.Core.Path.{ap, sym}
+use mathlib.Core.Path.{sym}
 use borrow.Author.Needs.{needs}
 use Rattle.export.proofs.hamzulaph_decide.Statement.{statement}
 use Rattle.export.proofs.hamzulaph_decide.Tie as tie
@@ -18,7 +18,9 @@ same-length-2 c = search needs
 
 returns : tie.Need-returns
 returns c =
-    record { answer = _; tells = sym (c .in-numbers .ensures); decided = c .before .before .before .decide .ensures }
+    let told : tie.After-in-numbers = search in
+    let decided : tie.After-decide = search in
+    record { answer = _; tells = sym (told .in-numbers .ensures); decided = decided .decide .ensures }
 
 pub hamzulaph-decide-spec : {M : Type 1} → statement M
 hamzulaph-decide-spec =

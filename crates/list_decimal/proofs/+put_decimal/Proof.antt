@@ -1,24 +1,16 @@
 -- `list_decimal::put_decimal` meets its contract: the number falls at each call. Assumes nothing.
-use mathlib.Core.Path.{_≡_, ap, _∙_}
-use Prim.Native.Nat.{ℕ, _+_, _/_, _≤_, _<_}
+use Prim.Native.Nat.{ℕ, _<_}
 use native.Mathlib.Omega.{arith}
-use lib.ListN.{length, length-append}
 use borrow.Author.Needs.{needs}
 use borrow.Fn.Kinds.{In}
 use borrow.Fn.PlainCycle.{Measures, is, falls, and}
-use Rattle.rules_listing.specs.Text.{decimal}
-use Rattle.list_decimal.proofs.Decimal.{decimal-digit, decimal-step}
-use Rattle.list_text.proofs.Placing.{wrote-then}
+use Rattle.list_decimal.proofs.Written.{digit-fits, tenth-fits, last-fits, wrote-digit, wrote-last}
 use Rattle.list_decimal.proofs.+put_decimal.{statement}
 use Rattle.list_decimal.proofs.+put_decimal.Tie.{close}
 use Rattle.list_decimal.proofs.put_decimal.Reads as put-decimal
 use Rattle.list_decimal.proofs.put_decimal.Kinds as put-decimal-kinds
 use Rattle.list_decimal.proofs.+put_decimal.Lts-put_decimal as put-decimal-lts
 use Rattle.list_text.proofs.put_byte.Reads as put-byte-reads
-
--- one digit more than a tenth has
-digits-of : (x : ℕ) → 10 ≤ x → length (decimal x) ≡ length (decimal (x / 10)) + 1
-digits-of x least = ap length (decimal-step x least) ∙ length-append (decimal (x / 10)) _
 
 abbrev μ-put-decimal : Measures 1 put-decimal-kinds.ps ℕ
 μ-put-decimal κs a = a .1 .1 .0
@@ -53,9 +45,7 @@ put-decimal-put-byte-requires : (t : ℕ) → put-decimal-lts.Need-put-byte-requ
   put-decimal-below t,
   put-decimal.Post,
 ) (put-decimal-at t) put-decimal.Post
-put-decimal-put-byte-requires t c κs =
-    let start = c .before .before .before in
-    omega (arith, start .pre .1, ap length (decimal-digit (start .args .x) (c .before .if1 .taken)))
+put-decimal-put-byte-requires t c κs = search digit-fits
 
 put-decimal-same-length : (t : ℕ) → put-decimal-lts.Need-same-length (
   put-byte-reads.Asked,
@@ -71,9 +61,7 @@ put-decimal-returns : (t : ℕ) → put-decimal-lts.Need-returns (
   put-decimal-below t,
   put-decimal.Post,
 ) (put-decimal-at t) put-decimal.Post
-put-decimal-returns t c =
-    let test = c .before .before .before .before in
-    rw (decimal-digit (test .before .before .args .x) (test .if1 .taken)) (c .before .before .put-byte .ensures)
+put-decimal-returns t c = search wrote-digit
 
 put-decimal-put-decimal-requires : (t : ℕ) → put-decimal-lts.Need-put-decimal-requires (
   put-byte-reads.Asked,
@@ -81,10 +69,7 @@ put-decimal-put-decimal-requires : (t : ℕ) → put-decimal-lts.Need-put-decima
   put-decimal-below t,
   put-decimal.Post,
 ) (put-decimal-at t) put-decimal.Post
-put-decimal-put-decimal-requires t c κs =
-    let start = c .before .before .before in
-    let x = start .args .x in
-    (omega (arith, start .pre .0), omega (arith, start .pre .1, digits-of x (c .before .if1 .left)))
+put-decimal-put-decimal-requires t c κs = (search needs, search tenth-fits)
 
 put-decimal-add-put-byte-2 : (t : ℕ) → put-decimal-lts.Need-add-put-byte-2 (
   put-byte-reads.Asked,
@@ -108,11 +93,7 @@ put-decimal-put-byte-requires-2 : (t : ℕ) → put-decimal-lts.Need-put-byte-re
   put-decimal-below t,
   put-decimal.Post,
 ) (put-decimal-at t) put-decimal.Post
-put-decimal-put-byte-requires-2 t c κs =
-    let call = c .before .before .before in
-    let test = call .before .before in
-    let start = test .before .before in
-    omega (arith, start .pre .1, digits-of (start .args .x) (test .if1 .left), call .put-decimal .kept .0, call .put-decimal .ensures .reached)
+put-decimal-put-byte-requires-2 t c κs = search last-fits
 
 put-decimal-same-length-2 : (t : ℕ) → put-decimal-lts.Need-same-length-2 (
   put-byte-reads.Asked,
@@ -128,12 +109,7 @@ put-decimal-returns-2 : (t : ℕ) → put-decimal-lts.Need-returns-2 (
   put-decimal-below t,
   put-decimal.Post,
 ) (put-decimal-at t) put-decimal.Post
-put-decimal-returns-2 t c =
-    let call = c .before .before .before .before .before .before in
-    let test = call .before .before in
-    let start = test .before .before in
-    rw (decimal-step (start .args .x) (test .if1 .left))
-    (wrote-then (omega (arith, start .pre .1)) (call .put-decimal .ensures) (c .before .before .put-byte2 .ensures))
+put-decimal-returns-2 t c = search wrote-last
 
 pub +put-decimal-spec : {M : Type 1} → statement M
 +put-decimal-spec = close μ-put-decimal λ t. put-decimal-lts.spec (

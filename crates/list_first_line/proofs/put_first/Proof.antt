@@ -50,28 +50,40 @@ same-length c = search needs
 
 returns : tie.Need-returns
 unfolding firstLine wordsOf said ascii
-returns c = let call = c .before .before in rw (call .before .before .before .before .answer .given .1) (call .put-said .ensures)
+returns c =
+    let call : tie.After-put-said = search in
+    let told : tie.After-answer = search in
+    record { wrote = rw (told .answer .given .1) (call .put-said .ensures .wrote); short = search needs }
 
 same-length-2 : tie.Need-same-length-2
 same-length-2 c = search needs
 
 returns-2 : tie.Need-returns-2
 unfolding firstLine wordsOf said ascii
-returns-2 c = let call = c .before .before in rw (call .before .before .before .before .answer2 .given .1) (call .put-said2 .ensures)
+returns-2 c =
+    let call : tie.After-put-said2 = search in
+    let told : tie.After-answer2 = search in
+    record { wrote = rw (told .answer2 .given .1) (call .put-said2 .ensures .wrote); short = search needs }
 
 same-length-3 : tie.Need-same-length-3
 same-length-3 c = search needs
 
 returns-3 : tie.Need-returns-3
 unfolding firstLine wordsOf said ascii
-returns-3 c = let call = c .before .before in rw (call .before .before .before .before .answer3 .given .1) (call .put-said3 .ensures)
+returns-3 c =
+    let call : tie.After-put-said3 = search in
+    let told : tie.After-answer3 = search in
+    record { wrote = rw (told .answer3 .given .1) (call .put-said3 .ensures .wrote); short = search needs }
 
 same-length-4 : tie.Need-same-length-4
 same-length-4 c = search needs
 
 returns-4 : tie.Need-returns-4
 unfolding firstLine wordsOf said ascii
-returns-4 c = let call = c .before .before in rw (call .before .before .before .before .answer4 .given .1) (call .put-said4 .ensures)
+returns-4 c =
+    let call : tie.After-put-said4 = search in
+    let told : tie.After-answer4 = search in
+    record { wrote = rw (told .answer4 .given .1) (call .put-said4 .ensures .wrote); short = search needs }
 
 pub put-first-spec : {M : Type 1} → statement M
 put-first-spec =

@@ -12,20 +12,24 @@ use Rattle.list_fractions.proofs.is_fraction.Statement.{statement}
 use Rattle.list_fractions.proofs.is_fraction.Tie as tie
 
 returns : tie.Need-returns
-returns c = let start = c .before in sym (fraction-not-low (start .args .num) _ (rw (toZ-ofZ (start .fits .den)) at (c .if1 .taken)))
+returns c = let start : tie.Start = search in sym (fraction-not-low (start .args .num) _ (rw (toZ-ofZ (start .fits .den)) at (c .if1 .taken)))
 
 size-requires : tie.Need-size-requires
 size-requires c κs = search needs
 
 -- the size of the numerator, as it was taken
-size-is : (c : tie.After-size) → c .size .result ≡ natAbs (c .before .before .args .num)
-size-is c = c .size .ensures ∙ ap natAbs (toZ-ofZ (c .before .before .fits .num))
+abbrev from-size : tie.After-size → tie.Start
+from-size c = search
+
+size-is : (c : tie.After-size) → c .size .result ≡ natAbs (from-size c .args .num)
+size-is c = c .size .ensures ∙ ap natAbs (toZ-ofZ (from-size c .fits .num))
 
 returns-2 : tie.Need-returns-2
 unfolding limit
 returns-2 c =
-    let start = c .before .before .before in
-    sym (fraction-not-wide (start .args .num) (start .args .den) (omega (arith, size-is (c .before))))
+    let sized : tie.After-size = search in
+    let start : tie.Start = search in
+    sym (fraction-not-wide (start .args .num) (start .args .den) (omega (arith, size-is sized)))
 
 size-requires-2 : tie.Need-size-requires-2
 size-requires-2 c κs = search needs
@@ -36,11 +40,13 @@ greatest-requires c κs = search needs
 returns-3 : tie.Need-returns-3
 unfolding limit
 returns-3 c =
-    let sized = c .before .before .before in
-    let start = sized .before .before in
-    let bottom = c .before .size2 .ensures ∙ ap natAbs (toZ-ofZ (start .fits .den)) in
+    let both : tie.After-size2 = search in
+    let sized : tie.After-size = search in
+    let above : tie.Else1 = search in
+    let start : tie.Start = search in
+    let bottom = both .size2 .ensures ∙ ap natAbs (toZ-ofZ (start .fits .den)) in
     ap (λ g. eqb g 1) (c .greatest .ensures ∙ ap₂ gcd (size-is sized) bottom)
-    ∙ sym (fraction-by-gcd (start .args .num) (start .args .den) (rw (toZ-ofZ (start .fits .den)) at (sized .before .if1 .left)) (start .fits .den) (omega (arith, size-is sized)))
+    ∙ sym (fraction-by-gcd (start .args .num) (start .args .den) (rw (toZ-ofZ (start .fits .den)) at (above .if1 .left)) (start .fits .den) (omega (arith, size-is sized)))
 
 pub is-fraction-spec : {M : Type 1} → statement M
 is-fraction-spec =

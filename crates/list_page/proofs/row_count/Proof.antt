@@ -1,6 +1,6 @@
 -- `list_page::row_count` meets its contract. Assumes nothing.
 use borrow.Author.Needs.{needs}
-use Rattle.list_page.specs.Page.{rowsListed}
+use Rattle.rules_listing.specs.Page.{rowsListed}
 use Rattle.list_page.proofs.row_count.Statement.{statement}
 use Rattle.list_page.proofs.row_count.Tie as tie
 

@@ -1,5 +1,5 @@
 -- `list_page::term_count` meets its contract. Assumes nothing.
-use Rattle.list_page.proofs.Ends.{no-bytes, first-byte}
+use Rattle.list_page.proofs.Count.{no-bytes, first-byte}
 use native.Mathlib.Omega.{arith}
 use borrow.Author.Needs.{needs}
 use Rattle.list_page.proofs.term_count.Statement.{statement}

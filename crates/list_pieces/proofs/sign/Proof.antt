@@ -24,10 +24,10 @@ upward (pos n) h = refl
 upward (negsuc n) h = let no-way : _≡_ {A = ℕ} 0 1 = cc in absurd (omega arith)
 
 returns : tie.Need-returns
-returns c = below _ (rw (toZ-ofZ (c .before .fits .num)) at (c .if1 .taken))
+returns c = let start : tie.Start = search in below _ (rw (toZ-ofZ (start .fits .num)) at (c .if1 .taken))
 
 returns-2 : tie.Need-returns-2
-returns-2 c = upward _ (rw (toZ-ofZ (c .before .fits .num)) at (c .if1 .left))
+returns-2 c = let start : tie.Start = search in upward _ (rw (toZ-ofZ (start .fits .num)) at (c .if1 .left))
 
 pub sign-spec : {M : Type 1} → statement M
 sign-spec = tie.close (tie.spec returns returns-2)

@@ -1,8 +1,6 @@
 -- `list_row_line::put_or_zero` meets its contract. Assumes nothing.
-use native.Mathlib.Omega.{arith}
 use borrow.Author.Needs.{needs}
-use Rattle.rules_listing.specs.Text.{ascii}
-use Rattle.list_row_line.proofs.Lines.{wrote-zero, wrote-some}
+use Rattle.list_row_line.proofs.Lines.{zero-fits, wrote-zero, wrote-some}
 use Rattle.list_row_line.proofs.put_or_zero.Statement.{statement}
 use Rattle.list_row_line.proofs.put_or_zero.Tie as tie
 
@@ -13,24 +11,19 @@ slice-aggregate-put-text : tie.Need-slice-aggregate-put-text
 slice-aggregate-put-text c = search needs
 
 put-text-requires : tie.Need-put-text-requires
-put-text-requires c κs = let call = c .before .before .before .before .before in omega (arith, call .before .before .before .pre .1, call .put-pieces .kept .0)
+put-text-requires c κs = search zero-fits
 
 same-length : tie.Need-same-length
 same-length c = search needs
 
 returns : tie.Need-returns
-unfolding ascii
-returns c =
-    let zero = c .before .before in
-    let test = zero .before .before .before in
-    let call = test .before .before .before in
-    wrote-zero (omega (arith, call .before .before .before .pre .1)) (call .put-pieces .ensures) (test .if1 .taken) (zero .put-text .ensures)
+returns c = search wrote-zero
 
 same-length-2 : tie.Need-same-length-2
 same-length-2 c = search needs
 
 returns-2 : tie.Need-returns-2
-returns-2 c = wrote-some (c .before .before .before .put-pieces .ensures) (c .if1 .left)
+returns-2 c = search wrote-some
 
 pub put-or-zero-spec : {M : Type 1} → statement M
 put-or-zero-spec =

@@ -14,7 +14,7 @@ same-length : tie.Need-same-length
 same-length c = search needs
 
 returns : tie.Need-returns
-returns c = wrote-byte (c .args .at) (c .args .b) (c .args .buf .now) (c .pre)
+returns c = wrote-byte _ _ _ (search needs)
 
 pub put-byte-spec : {M : Type 1} → statement M
 put-byte-spec = tie.close (tie.spec slice-write-buf add-result same-length returns)

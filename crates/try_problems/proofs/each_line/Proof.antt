@@ -1,14 +1,22 @@
 -- `try_problems::each_line` ends: the text left falls at each line. Assumes nothing.
 use mathlib.Core.Path.{_≡_}
-use Prim.Native.Nat.{_≤_, _-_}
+use mathlib.Core.List.{List}
+use Prim.Native.Nat.{ℕ, _≤_, _-_}
 use native.Mathlib.Omega.{arith}
 use lib.ListN.{length}
+use lib.IntN.{ℤ}
 use borrow.Author.Needs.{needs}
 use Rattle.try_problems.proofs.each_line.Statement.{statement}
 use Rattle.try_problems.proofs.each_line.Tie as tie
 
+-- the place is within the text, and both lists are as long as they were
+record Within (text : List ℕ) (nums₀ dens₀ nums dens : List ℤ) (at : ℕ) : Type 0 where
+  most : at ≤ length text
+  nums-size : length nums ≡ length nums₀
+  dens-size : length dens ≡ length dens₀
+
 abbrev Inv-loop : tie.InvT-loop
-Inv-loop text nums₀ dens₀ base₀ at₀ nums dens base at = (at ≤ length text) × (length nums ≡ length nums₀) × (length dens ≡ length dens₀)
+Inv-loop text nums₀ dens₀ base₀ at₀ nums dens base at = Within text nums₀ dens₀ nums dens at
 
 abbrev μ-loop : tie.MeasureT-loop
 μ-loop text nums₀ dens₀ base₀ at₀ nums dens base at = length text - at
@@ -44,7 +52,10 @@ add-at : tie.Need-add-at Inv-loop μ-loop
 add-at c = search needs
 
 loop-less : tie.Need-loop-less Inv-loop μ-loop
-loop-less c = let on = c .before .before .before .before .before .before .line-length .ensures .onward (omega arith) in omega (arith, on)
+loop-less c =
+    let next : tie.After-line-length Inv-loop μ-loop = search in
+    let on = next .line-length .ensures .onward (omega arith) in
+    omega (arith, on)
 
 loop-again : tie.Need-loop-again Inv-loop μ-loop
 loop-again c = search needs

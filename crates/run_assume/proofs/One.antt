@@ -12,6 +12,7 @@ use Rattle.rules_run.specs.Run.{byNumber, ends}
 use Rattle.run_table.specs.Work.{Work, tableOf, Resting}
 use Rattle.run_table.proofs.Columns.{kept-then}
 use Rattle.run_merge.specs.Outcome.{merged, Unstopped}
+use Rattle.run_merge.proofs.Steps.{merges-by-number}
 use Rattle.run_merge.specs.Contract.{Hints, Merges}
 use Rattle.run_merge.specs.declared.Merged.{Merged}
 use Rattle.run_merge.specs.declared.Merged.the-variants.{Nothing, Solved, Contradiction as Clash, Refused as Outside}
@@ -25,10 +26,10 @@ use Rattle.run_progress.proofs.Going.{open-going}
 use Rattle.run_assume.specs.Assumed.{assumed}
 use Rattle.run_assume.specs.Contract.{EACH, Assumable, Assumes}
 
-module _ {n left right solved : ℕ} {heads inputs : List ℕ} {old mid : Work} {answer : Merged} (ready : Assumable n left right solved heads inputs old) (merges : Merges n left right answer old mid) where
+module _ {n left right solved : ℕ} {heads inputs : List ℕ} {old mid : Work} {answer : Merged} (ready : Assumable n left right solved heads inputs old) (merges : Merges n left right 0 answer old mid) where
   after : (place : ℕ) (to : Merged) → answer ≡ to → (terms : List Term) → assumed terms place left right (stateOf n old solved) ≡ because (ends place) (merged to solved (tableOf n mid) >>= rule.close byNumber terms)
   unfolding assumed
-  after place to is terms = ap (λ m. because (ends place) (m >>= rule.close byNumber terms)) (merges .answers solved ∙ ap (λ m. merged m solved (tableOf n mid)) is)
+  after place to is terms = ap (λ m. because (ends place) (m >>= rule.close byNumber terms)) (merges-by-number merges solved ∙ ap (λ m. merged m solved (tableOf n mid)) is)
 
   -- Where the merge of the sides goes on, closing can begin.
   module _ (to : Merged) (is : answer ≡ to) (count : ℕ) (goes-on : merged to solved (tableOf n mid) ≡ made (stateOf n mid count)) (hints : Hints n old mid) where
@@ -37,7 +38,7 @@ module _ {n left right solved : ℕ} {heads inputs : List ℕ} {old mid : Work} 
         let resting = ready .resting in
         serves (ready-merged (ready-of resting) (merges .left) hints) λ terms lookups.
         merged-awake left right solved count lookups (resting .notes .below) (resting .linked) (hints .stirred)
-        (merges .answers solved ∙ ap (λ a. merged a solved (tableOf n mid)) is ∙ goes-on) (resting .watched terms lookups)
+        (merges-by-number merges solved ∙ ap (λ a. merged a solved (tableOf n mid)) is ∙ goes-on) (resting .watched terms lookups)
 
     -- Closing gives what the assumption comes to.
     closes-on : {place : ℕ} {c : AfterClosing} {r : Ran} {new : Work} → Closes n count heads inputs c mid new → Places place c (solved + EACH) r → Assumes n place left right solved heads inputs r old new

@@ -1,6 +1,7 @@
 // Step 3 of the run: each assumption in file order.
 use answer::Answer;
 use run_merge::Merged;
+use run_merge::NONE;
 use run_progress::Ran;
 ghost use Rattle.run_table.specs.Work.{lent, entered, leaving};
 ghost use Rattle.run_assume.specs.Contract.{Assumable, Assumes, AllAssumable, AssumesAll};
@@ -25,7 +26,7 @@ fn assume_one(
     ensures { λ r.
         ⌜ Assumes n place left right solved (now (heads .entry)) (now (inputs .entry)) r (entered nums dens sets) (leaving nums dens sets) ⌝ }
 {
-    match run_merge::merge(nums, dens, n, left, right, sets) {
+    match run_merge::merge(nums, dens, n, left, right, sets, NONE) {
         Merged::Nothing => run_progress::placed(
             place,
             run_close::close(nums, dens, n, heads, inputs, sets, solved),

@@ -31,6 +31,7 @@ use Rattle.run_due_pair.proofs.Woken.{closed-sleeps, pending-awake}
 use Rattle.run_due_pair.specs.declared.Due.{Due}
 use Rattle.run_due_pair.specs.declared.Due.the-variants.{Pair as Found, NoneDue}
 use Rattle.run_merge.specs.Outcome.{merged, Unstopped}
+use Rattle.run_merge.proofs.Steps.{merges-by-number}
 use Rattle.run_merge.specs.Contract.{Mergeable, Hints, Merges}
 use Rattle.run_merge.specs.declared.Merged.{Merged}
 use Rattle.run_merge.specs.declared.Merged.the-variants.{Nothing, Solved, Contradiction as Clash, Refused as Outside}
@@ -163,12 +164,12 @@ module _ {n solved : ℕ} {heads inputs : List ℕ} {old : Work} {count turns : 
         closing-merges = let order = pair-below in record { rows = ready-shut served shut .rows; left = omega arith; right = omega arith }
 
         module _ (told : (k : ℕ) → holds shut k ≡ (not (eqb k right) && holds (openOf sets₁) k))
-            {answer : Merged} {new : Work} (merges : Merges n left right answer (withSets w (set sets₁ 193 shut)) new) (sized : length waiting₂ ≡ RIGHTS + 1) where
+            {answer : Merged} {new : Work} (merges : Merges n left right 0 answer (withSets w (set sets₁ 193 shut)) new) (sized : length waiting₂ ≡ RIGHTS + 1) where
           after : (to : Merged) → answer ≡ to → (terms : List Term) → Lookups terms n heads inputs → close byNumber terms (stateOf n old solved) ≡ merged to count (tableOf n new) >>= closeFor (turns - 1) byNumber terms
           unfolding pairOf
           after to is terms lookups =
               step terms lookups (some (record { left = left; right = right })) (ap pairOf is-pair)
-              ∙ ap (λ m. m >>= closeFor (turns - 1) byNumber terms) (merges .answers count ∙ ap (λ m. merged m count (tableOf n new)) is)
+              ∙ ap (λ m. m >>= closeFor (turns - 1) byNumber terms) (merges-by-number merges count ∙ ap (λ m. merged m count (tableOf n new)) is)
 
           kept-on : Kept 0 (65 * n) (old .nums) (old .dens) (new .nums) (new .dens)
           kept-on = kept-then (closing .kept) (merges .left .kept)
@@ -186,7 +187,7 @@ module _ {n solved : ℕ} {heads inputs : List ℕ} {old : Work} {count turns : 
                 size = size-on;
                 counted = counted;
                 serving = serves (ready-merged (ready-shut served shut) (merges .left) hints) λ terms lookups.
-                    shut-watched left right count more lookups (served .notes .below) (ready-shut served shut .linked) (hints .stirred) (merges .answers count ∙ ap (λ m. merged m count (tableOf n new)) is ∙ goes-on)
+                    shut-watched left right count more lookups (served .notes .below) (ready-shut served shut .linked) (hints .stirred) (merges-by-number merges count ∙ ap (λ m. merged m count (tableOf n new)) is ∙ goes-on)
                     waiting₂ shut (served .rows .size) refl told (due-some terms (tableOf n w) (record { left = left; right = right }) (finds .pair terms lookups ∙ ap pairOf is-pair)) (finds .serving .watched terms lookups);
                 sized = sized;
               }

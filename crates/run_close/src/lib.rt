@@ -5,6 +5,7 @@ use crate::wake::wake;
 use run_due_pair::Due;
 use run_due_pair::RIGHTS;
 use run_merge::Merged;
+use run_merge::NONE;
 use run_table::OPEN;
 use run_table::PENDING;
 ghost use Rattle.run_table.specs.Work.{lent, entered, leaving};
@@ -46,7 +47,7 @@ pub fn close(
             Due::Pair { left, right } => {
                 let open = set_members::without(sets[OPEN], right);
                 sets[OPEN] = open;
-                match run_merge::merge(nums, dens, n, left, right, sets) {
+                match run_merge::merge(nums, dens, n, left, right, sets, NONE) {
                     Merged::Nothing => turns -= 1,
                     Merged::Solved => {
                         count += 1;

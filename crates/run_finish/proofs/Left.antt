@@ -19,7 +19,7 @@ use Rattle.rules_run.specs.Run.{judged}
 use Rattle.run_table.specs.Held.{heldAt}
 use Rattle.run_table.specs.Work.{Work, tableOf, Rows}
 use Rattle.run_table.proofs.Columns.{column-held, row-held, table-length}
-use Rattle.run_fill.specs.Filled.{Filled}
+use Rattle.run_fill.specs.Contract.{Filled}
 use Rattle.rules_outcome.specs.Outcome.{rows, zeros, after, laidOut}
 use Rattle.rules_outcome.proofs.Laid.{laid-out-is}
 use Rattle.run_finish.specs.Lent.{lentOf}

@@ -7,7 +7,7 @@ ghost use Prim.Native.Nat.{_*_};
 ghost use lib.IntN.{pos};
 ghost use Rattle.rules_outcome.specs.Outcome.{Long};
 ghost use Rattle.rules_run.specs.Row as rule;
-ghost use Rattle.run_fill.specs.Filled.{Filled};
+ghost use Rattle.run_fill.specs.Contract.{Filled};
 ghost use Rattle.run_table.specs.Work.{lent, entered};
 ghost use Rattle.run_finish.specs.Lent.{lending, lentAt, leftAt};
 ghost use Rattle.run_finish.specs.Contract.{Roomy, Finishable, Finishes, Clears};

@@ -1,7 +1,7 @@
 -- A merge, step by step: what each step asks of the one before it, what its answer makes of the rule's, and what it leaves.
 -- Main results: `solve-folds`, `form-refused`, `fold-refused`, `fold-made`; `settle-solves`, `settles-nothing`, `settles-contradiction`,
 -- `settles-solved`; `zeros-within`, `merge-subtracts`, `merge-settles`, `difference-refused`, `difference-made`. Assume nothing.
-use mathlib.Core.Path.{_≡_, refl, sym, ap, ap₂, _∙_}
+use mathlib.Core.Path.{_≡_, refl, sym, ap, ap₂, _∙_, subst}
 use mathlib.Core.Bool.{_||_}
 use mathlib.Core.List.{List}
 use mathlib.Core.Option.{none}
@@ -21,6 +21,7 @@ use Rattle.fraction_reduce.specs.Values.{Good}
 use Rattle.fraction_reduce.proofs.Tests.{zero-tested, other-tested}
 use Rattle.rules_run.specs.Row.{TERMS, COLUMNS, constant, column, row, rowOf}
 use Rattle.rules_run.specs.Merge.{difference, pivot, solve, settle, merge}
+use Rattle.rules_run.specs.Run.{byNumber}
 use Rattle.run_table.specs.declared.Step.{Step}
 use Rattle.run_table.specs.declared.Step.the-variants.{Done, Refused as Stopped}
 use Rattle.run_table.specs.Held.{heldAt, rowAt}
@@ -35,12 +36,13 @@ use Rattle.run_difference.specs.Contract.{Subtractable, apart, Subtracts}
 use Rattle.run_pivot.specs.declared.Found.{Found}
 use Rattle.run_pivot.specs.declared.Found.the-variants.{At, Nothing as Nowhere}
 use Rattle.run_pivot.specs.Contract.{preferring, pivoted, Pivots}
+use Rattle.run_pivot.proofs.Chosen.{preferring-none}
 use Rattle.run_solve.specs.Contract.{Formable, Forms}
 use Rattle.run_fold.specs.Contract.{Foldable, Folds}
 use Rattle.run_merge.specs.declared.Merged.{Merged}
 use Rattle.run_merge.specs.declared.Merged.the-variants.{Nothing, Solved, Contradiction, Refused}
 use Rattle.run_merge.specs.Outcome.{merged, Unstopped}
-use Rattle.run_merge.specs.Contract.{Mergeable, Settleable, Solvable, Hints, Left, Solves, Settles, Merges}
+use Rattle.run_merge.specs.Contract.{Mergeable, Settleable, Solvable, Hints, Left, stateOf, Solves, Settles, Merges}
 
 -- Lists that nothing changes, whatever the answer.
 left-itself : {n : ℕ} {w : Work} → Rows n w → (r : Merged) → Left n r w w
@@ -209,3 +211,9 @@ module _ {n t u : ℕ} {w : Work} (asked : Mergeable n t u w) where
     difference-made done settles =
         let makes = difference-read ∙ stepped-done (subtracts .row-made .ends) done in
         record { answers = λ solved. rw makes (settles .answers solved); left = settles .left }
+
+-- Where no unknown is preferred, the one of the highest number is solved.
+pub merges-by-number : {n t u : ℕ} {r : Merged} {old new : Work} → Merges n t u 0 r old new → (solved : ℕ)
+    → merge byNumber t u (stateOf n old solved) ≡ merged r solved (tableOf n new)
+merges-by-number {n} {t} {u} {r} {old} {new} merges solved =
+    subst (λ rank. merge rank t u (stateOf n old solved) ≡ merged r solved (tableOf n new)) preferring-none (merges .answers solved)

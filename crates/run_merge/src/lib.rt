@@ -7,6 +7,9 @@ ghost use Rattle.run_table.specs.Lists.{lists, atEntry, rowIn};
 ghost use Rattle.run_table.specs.Work.{lent, entered, leaving};
 ghost use Rattle.run_merge.specs.Contract.{Mergeable, Settleable, Solvable, Solves, Settles, Merges};
 
+// No unknown is preferred.
+pub const NONE: u64 = 0;
+
 // What a merge does: nothing, where the rows are equal; one unknown more is solved; it stops, since no reading is left, or with
 // the number of a refusal.
 pub enum Merged {

@@ -1,6 +1,6 @@
 -- The unknown of highest rank, where some unknowns are preferred: the highest of those, and if there is none the highest of all.
 -- Main results: `preferring-one-to-one`, `preferring-none`, `chooses-preferred`, `chooses-other`. Assume nothing.
-use mathlib.Core.Path.{_≡_, refl, sym, ap, ap₂, _∙_}
+use mathlib.Core.Path.{_≡_, refl, sym, ap, ap₂, _∙_, fun-ext}
 use mathlib.Core.Logic.{_≢_}
 use mathlib.Core.Bool.{Bool, true, false, _&&_, cond}
 use mathlib.Core.Option.{Option, some, none}
@@ -12,6 +12,7 @@ use Rattle.set_members.proofs.Digits.{holds-none}
 use Rattle.fraction.specs.Exact.{zeroℚ}
 use Rattle.rules_run.specs.Row.{Row, TERMS, column}
 use Rattle.rules_run.specs.Merge.{pivot}
+use Rattle.rules_run.specs.Run.{byNumber}
 use Rattle.laws_invariant.proofs.Pivot.{Pivot, pivot-some, pivot-none}
 use Rattle.run_table.specs.Lists.{Lists, rowIn, Unknown, RowWithin}
 use Rattle.run_table.proofs.Lists.{column-nothing}
@@ -40,8 +41,9 @@ preferring-one-to-one preferred c k c-below k-below same = by (holds preferred c
     by false false p q = omega (arith, ranks-as-number preferred c p, ranks-as-number preferred k q)
 
 -- Where none is preferred a column ranks by its number.
-pub preferring-none : (c : ℕ) → preferring 0 c ≡ c
-preferring-none c = ranks-as-number 0 c (holds-none c)
+pub preferring-none : preferring 0 ≡ byNumber
+unfolding byNumber
+preferring-none = fun-ext (λ c. ranks-as-number 0 c (holds-none c))
 
 module _ (preferred : ℕ) (d : Row) where
   -- The column of highest rank is the one that the rule finds; where all are 0 it finds none.

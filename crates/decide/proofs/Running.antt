@@ -17,6 +17,7 @@ use Rattle.run_progress.specs.declared.Ran.{Ran}
 use Rattle.run_progress.specs.declared.Ran.the-variants.{Going, Ended}
 use Rattle.run_progress.specs.Ran.{ran, AtMost, WhileGoing}
 use Rattle.run_progress.proofs.Going.{going-holds}
+use Rattle.run_build.specs.Store.{Store}
 use Rattle.run_begin.specs.Contract.{Begins}
 use Rattle.run_assume.specs.Contract.{AllAssumable, AssumesAll}
 use Rattle.decide.specs.Contract.{Runnable, Runs}
@@ -37,13 +38,13 @@ going-most : {most : ℕ} {r : Ran} {solved : ℕ} → r ≡ Going solved → At
 unfolding AtMost
 going-most {most} same h = subst (AtMost most) same h
 
-module _ {bytes : List ℕ} {n m : ℕ} {heads inputs heads′ inputs′ : List ℕ} {old begun : Work} {r₀ : Ran} (ready : Runnable bytes n m heads inputs old) (begins : Begins bytes n r₀ heads inputs heads′ inputs′ old begun) where
+module _ {bytes : List ℕ} {n m : ℕ} {old begun : Store} {r₀ : Ran} (ready : Runnable bytes n m old) (begins : Begins bytes n r₀ old begun) where
   -- A run that goes on after its beginning can take its assumptions.
-  pub then-assumable : {solved : ℕ} → r₀ ≡ Going solved → AllAssumable bytes n m solved heads′ inputs′ begun
+  pub then-assumable : {solved : ℕ} → r₀ ≡ Going solved → AllAssumable bytes n m solved (begun .heads) (begun .inputs) (begun .work)
   then-assumable going = record { prepared = going-holds going (begins .prepared); pairs = ready .pairs; few-solved = going-most going (begins .counted) }
 
   -- It then is the run that its assumptions make of it;
-  pub runs-on : {solved : ℕ} {r : Ran} {new : Work} → r₀ ≡ Going solved → AssumesAll bytes n solved r begun new → Runs bytes n r old new
+  pub runs-on : {solved : ℕ} {r : Ran} {new : Work} → r₀ ≡ Going solved → AssumesAll bytes n solved r (begun .work) new → Runs bytes n r (old .work) new
   unfolding WhileGoing
   runs-on {r = r} {new = new} going assumes = record {
     answers = λ problem held. run-goes-on problem _ _ _ _ _ (begins .answers problem held) going (assumes .answers problem held);
@@ -51,14 +52,14 @@ module _ {bytes : List ℕ} {n m : ℕ} {heads inputs heads′ inputs′ : List 
     rows = all r (assumes .sparse);
   }
     where
-      kept : Kept 0 (COLUMNS * n) (old .nums) (old .dens) (new .nums) (new .dens)
+      kept : Kept 0 (COLUMNS * n) (old .work .nums) (old .work .dens) (new .nums) (new .dens)
       kept = kept-then (begins .kept) (assumes .stays .kept)
 
       all : (r : Ran) → WhileGoing (Sparse n (new .nums) (new .sets)) r → WhileGoing (Rows n new) r
       all (Ended answer) sparse = tt
       all (Going count) sparse =
           let prepared = going-holds going (begins .prepared) in
-          let before : Rows n begun = search in
+          let before : Rows n (begun .work) = search in
           record {
             few = before .few;
             nums-fit = omega (arith, ready .begins .nums-fit, kept .nums-length);
@@ -69,6 +70,6 @@ module _ {bytes : List ℕ} {n m : ℕ} {heads inputs heads′ inputs′ : List 
           }
 
   -- or it has ended there.
-  pub runs-ended : {answer : Answer} → r₀ ≡ Ended answer → Runs bytes n (Ended answer) old begun
+  pub runs-ended : {answer : Answer} → r₀ ≡ Ended answer → Runs bytes n (Ended answer) (old .work) (begun .work)
   unfolding WhileGoing
   runs-ended ended = record { answers = λ problem held. run-ends problem _ _ _ (begins .answers problem held) ended; kept = begins .kept; rows = tt }

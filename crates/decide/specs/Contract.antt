@@ -17,12 +17,13 @@ use Rattle.run_table.specs.Loop.{Kept}
 use Rattle.run_table.specs.Work.{Work, tableOf, Rows}
 use Rattle.run_progress.specs.declared.Ran.{Ran}
 use Rattle.run_progress.specs.Ran.{ran, WhileGoing}
-use Rattle.run_begin.specs.Contract.{Beginnable}
+use Rattle.run_build.specs.Contract.{Beginnable}
+use Rattle.run_build.specs.Store.{Store}
 use Rattle.run_finish.specs.Lent.{comesBack}
 
 -- a problem to be run, of n terms and m pairs
-pub record Runnable (bytes : List ℕ) (n m : ℕ) (heads inputs : List ℕ) (w : Work) : Type 0 where
-  pub begins : Beginnable bytes n heads inputs w
+pub record Runnable (bytes : List ℕ) (n m : ℕ) (s : Store) : Type 0 where
+  pub begins : Beginnable bytes n s
   pub pairs : m ≡ field bytes 8 8
 
 -- The run is that of the rules; places behind the rows stay; where the run went through, its rows can be worked on.

@@ -7,7 +7,8 @@ use rules_problem::PLACES;
 use rules_problem::TERMS;
 use run_progress::Ran;
 use run_table::OPEN;
-ghost use Rattle.run_table.specs.Work.{lent, entered, leaving};
+ghost use Rattle.run_table.specs.Work.{entered, leaving};
+ghost use Rattle.run_build.specs.Store.{lentAll};
 ghost use Rattle.run_finish.specs.Lent.{lending, lentAt, leftAt, comesBack};
 ghost use Rattle.decide.specs.Contract.{Runnable, Runs, Readable, Decides};
 ghost use Rattle.decide.specs.Decided.{Decided};
@@ -23,7 +24,7 @@ fn run_all(
     inputs: &mut [u8],
     sets: &mut [u64],
 ) -> Ran
-    requires { ⌜ Runnable (now bytes) n m (now heads) (now inputs) (lent nums dens sets) ⌝ }
+    requires { ⌜ Runnable (now bytes) n m (lentAll nums dens heads inputs sets) ⌝ }
     ensures { λ r. ⌜ Runs (now (bytes .entry)) n r (entered nums dens sets) (leaving nums dens sets) ⌝ }
 {
     match run_begin::begin(bytes, n, nums, dens, heads, inputs, sets) {

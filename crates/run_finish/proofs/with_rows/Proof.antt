@@ -1,15 +1,11 @@
 -- `run_finish::with_rows` meets its contract. Assumes nothing.
 use Rattle.run_finish.proofs.Left.{finishes-entailed, finishes-not-entailed}
-use native.Mathlib.Omega.{arith}
 use borrow.Author.Needs.{needs}
 use Rattle.run_finish.proofs.with_rows.Statement.{statement}
 use Rattle.run_finish.proofs.with_rows.Tie as tie
 
 same-row-requires : tie.Need-same-row-requires
-same-row-requires c κs =
-    let s : tie.Start = search in
-    let ready = s .pre in
-    ((ready .left-below, ready .right-below, ready .rows .few), ((ready .rows .nums-fit, ready .rows .dens-fit, omega (arith, ready .rows .size)), (ready .rows .sound, ready .rows .sparse)))
+same-row-requires c κs = search needs
 
 mul-fill : tie.Need-mul-fill
 mul-fill c = search needs

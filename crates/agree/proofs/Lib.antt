@@ -1,4 +1,3 @@
 mod Rows
 mod Pages
 mod Printed
-mod Enough

@@ -16,7 +16,7 @@ use Rattle.rules_listing.specs.Line.{firstLine}
 use Rattle.rules_listing.specs.Listing.{rowLines, Listed, writtenAt, heldLine, ROOM}
 use Rattle.rules_listing.specs.Page.{rowsListed, heldLines, pageText, longFor, fractionRows, listRows, PAGE}
 use Rattle.list_fractions.specs.Listable.{Listable}
-use Rattle.agree.proofs.Limits.{Limited}
+use Rattle.laws_invariant.proofs.Limits.{Limited}
 use Rattle.agree.proofs.Rows.{numeratorsOf, denominatorsOf, row-listable, row-line}
 
 -- what is left where a text is put at a place

@@ -84,8 +84,8 @@ unfoldable pub problemJ2 : Problem
 problemJ2 =
     problem
     (Variable 0
-    ∷ Gain (record { num = negsuc 0; den = pos 8 }) 0
-    ∷ Gain (record { num = pos 1; den = pos 8 }) 0
+    ∷ Gain (record { mantissa = negsuc 0; shift = 3 }) 0
+    ∷ Gain (record { mantissa = pos 1; shift = 3 }) 0
     ∷ [])
     (pair 1 2)
     []

@@ -6,7 +6,7 @@ use Prim.Native.Nat.{ℕ}
 use lib.IntN.{ℤ}
 use denote.Ref.{now}
 use Rattle.unique.specs.Twice.{Twice}
-use Rattle.run_finish.proofs.Unique.{leaves-one}
+use Rattle.decide.proofs.Unique.{decided-one}
 use Rattle.list_lines.specs.Contract.{placeOf, numberOf}
 use Rattle.list_lines.proofs.Unique.{listed-unique}
 use Rattle.answer_numbers.specs.declared.Numbers.{Numbers}
@@ -20,7 +20,7 @@ use Rattle.export.proofs.hamzulaph_list_row.Reads as row-reads
 -- Two answers in numbers, with the lists that they leave, for one byte string and the same lent lists.
 handed-unique : {bytes : List ℕ} {nums dens nums′ dens′ nums″ dens″ : List ℤ} {r s : Numbers} → Handed bytes nums dens nums′ dens′ r → Handed bytes nums dens nums″ dens″ s → (r ≡ s) × (nums′ ≡ nums″) × (dens′ ≡ dens″)
 handed-unique p q =
-    let one = leaves-one _ (p .answer) (q .answer) _ _ _ _ (p .decided .rules) (q .decided .rules) in
+    let one = decided-one (p .decided) (q .decided) in
     (sym (p .tells) ∙ ap numbersOf (one .0) ∙ q .tells, one .1, one .2)
 
 pub hamzulaph-decide-unique : Twice decide-kinds.ps decide-kinds.r decide-reads.Post λ κs a x y end end′.

@@ -7,7 +7,7 @@ use lib.IntN.{ℤ}
 use denote.Ref.{RefT, now}
 use denote.Triple.Both.{Both}
 use Rattle.answer.specs.declared.Answer.{Answer}
-use Rattle.run_finish.specs.Leaves.{leaves}
+use Rattle.run_finish.specs.Lent.{lentOf, comesBack}
 use Rattle.decide.specs.Decided.{Decided}
 use Rattle.list_lines.specs.declared.Reached.{Reached}
 use Rattle.list_lines.specs.Contract.{placeOf, numberOf, ListsRow}
@@ -29,7 +29,7 @@ handed word number figure = record { word = word; number = last number; figure =
 pub record Handed (bytes : List ℕ) (nums dens nums′ dens′ : List ℤ) (numbers : Numbers) : Type 0 where
   pub answer : Answer
   pub tells : numbersOf answer ≡ numbers
-  pub decided : Decided bytes nums dens (leaves answer nums′ dens′)
+  pub decided : Decided bytes (lentOf nums dens) (comesBack answer (lentOf nums′ dens′))
 
 -- What is handed back, a place and 0 or the number of a refusal, are those of an answer that `list_row_at` promises, with the buffer as it
 -- leaves it.

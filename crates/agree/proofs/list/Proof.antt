@@ -40,7 +40,7 @@ returns c =
     let listed : tie.After-listing-of = search in
     let decided : tie.After-decide = search in
     let start : tie.Start = search in
-    rw (told .end .given .1) at (calls-print (omega arith) (omega arith) (start .pre) (decided .decide .ensures) (listed .listing-of .ensures))
+    rw (told .end .given .1) at (calls-print (record { numerators = omega arith; denominators = omega arith }) (start .pre) (decided .decide .ensures) (listed .listing-of .ensures))
 
 same-length-2 : tie.Need-same-length-2
 same-length-2 c = search needs
@@ -52,7 +52,7 @@ returns-2 c =
     let listed : tie.After-listing-of = search in
     let decided : tie.After-decide = search in
     let start : tie.Start = search in
-    rw (told .place .given .1) at (calls-print (omega arith) (omega arith) (start .pre) (decided .decide .ensures) (listed .listing-of .ensures))
+    rw (told .place .given .1) at (calls-print (record { numerators = omega arith; denominators = omega arith }) (start .pre) (decided .decide .ensures) (listed .listing-of .ensures))
 
 pub list-spec : {M : Type 1} → statement M
 list-spec =

@@ -39,7 +39,7 @@ use Rattle.laws_invariant.proofs.Granted.{highest-number-strict}
 use Rattle.laws_truth.proofs.Truthful.{outcome-truthful}
 use Rattle.run_finish.specs.Lent.{lentOf, comesBack}
 use Rattle.run_finish.specs.Contract.{Finishable, Finishes, Clears}
-use Rattle.decide.specs.Contract.{Runs, Readable, Decides}
+use Rattle.decide.specs.Contract.{Runs, ReadSound, Decides}
 use Rattle.decide.specs.Decided.{Decided}
 
 -- What is laid out does not depend on what the places held.
@@ -112,7 +112,7 @@ read-facts {bytes} {header} h =
 pub facts-held : {bytes : List ℕ} {header : Header} → Facts bytes header → Held bytes
 facts-held facts = record { problem = facts .problem; same = facts .held }
 
-module _ {bytes : List ℕ} {header : Header} {lent : Lent} {old new : Work} {r : Ran} (ready : Readable bytes header lent) (runs : Runs bytes (header .n) r old new) where
+module _ {bytes : List ℕ} {header : Header} {lent : Lent} {old new : Work} {r : Ran} (ready : ReadSound bytes header lent) (runs : Runs bytes (header .n) r old new) where
   facts : Facts bytes header
   facts = read-facts (ready .sound)
 

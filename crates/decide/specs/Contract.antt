@@ -1,5 +1,5 @@
 -- What the steps of deciding ask for, and what they ensure. What deciding itself ensures is `Decided`.
--- Main definitions: `Runnable`, `Runs`, `Readable`, `Decides`. Assume nothing.
+-- Main definitions: `Runnable`, `Runs`, `ReadSound`, `Decides`. Assume nothing.
 use mathlib.Core.Path.{_≡_}
 use mathlib.Core.List.{List}
 use Prim.Native.Nat.{ℕ, _*_}
@@ -33,7 +33,7 @@ pub record Runs (bytes : List ℕ) (n : ℕ) (r : Ran) (old new : Work) : Type 0
   pub rows : WhileGoing (Rows n new) r
 
 -- a problem that was read, and lists that are long enough
-pub record Readable (bytes : List ℕ) (header : Header) (lent : Lent) : Type 0 where
+pub record ReadSound (bytes : List ℕ) (header : Header) (lent : Lent) : Type 0 where
   pub sound : readOf bytes ≡ read.Sound header
   pub long : Long lent
 

@@ -10,7 +10,7 @@ use run_table::OPEN;
 ghost use Rattle.run_table.specs.Work.{entered, leaving};
 ghost use Rattle.run_build.specs.Store.{lentAll};
 ghost use Rattle.run_finish.specs.Lent.{lending, lentAt, leftAt, comesBack};
-ghost use Rattle.decide.specs.Contract.{Runnable, Runs, Readable, Decides};
+ghost use Rattle.decide.specs.Contract.{Runnable, Runs, ReadSound, Decides};
 ghost use Rattle.decide.specs.Decided.{Decided};
 
 // 01, The run: built and closed, then each assumption.
@@ -45,7 +45,7 @@ fn run_all(
 
 // A problem that was read: the run, and the lists as it leaves them.
 fn decide_sound(bytes: &[u8], header: Header, nums: &mut [i32], dens: &mut [i32]) -> Answer
-    requires { ⌜ Readable (now bytes) header (lending nums dens) ⌝ }
+    requires { ⌜ ReadSound (now bytes) header (lending nums dens) ⌝ }
     ensures { λ r. ⌜ Decides (now (bytes .entry)) r (lentAt nums dens) (leftAt nums dens) ⌝ }
 {
     let n = header.n;

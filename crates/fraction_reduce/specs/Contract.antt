@@ -1,5 +1,5 @@
 -- What the functions that make a fraction ask for, and what they ensure.
--- Main definitions: `Reducible`, `Limited`, `InLowest`, `WithSign`, `Bottoms`. Assume nothing.
+-- Main definitions: `Reducible`, `SizesLimited`, `InLowest`, `WithSign`, `Bottoms`. Assume nothing.
 use mathlib.Core.Path.{_≡_}
 use Prim.Native.Nat.{ℕ, _*_, _/_, _^_, _<_, _≤_}
 use lib.IntN.{ℤ, pos, natAbs}
@@ -15,7 +15,7 @@ pub record Reducible (n : ℤ) (d : ℕ) : Type 0 where
   pub positive : 0 < d
 
 -- Two sizes within the limit.
-pub record Limited (top bottom : ℕ) : Type 0 where
+pub record SizesLimited (top bottom : ℕ) : Type 0 where
   pub above : top ≤ limit
   pub below : bottom ≤ limit
 

@@ -10,7 +10,7 @@ ghost use Prim.Native.Nat.{_<_, _^_};
 ghost use lib.IntN.{natAbs};
 ghost use Rattle.fraction.specs.Exact.{frac};
 ghost use Rattle.fraction.specs.Limits.{tested};
-ghost use Rattle.fraction_reduce.specs.Contract.{Reducible, Limited, InLowest, WithSign};
+ghost use Rattle.fraction_reduce.specs.Contract.{Reducible, SizesLimited, InLowest, WithSign};
 ghost use Rattle.fraction_reduce.specs.Values.{Answers};
 
 // 01, The run: the largest numerator and denominator.
@@ -36,7 +36,7 @@ pub(crate) fn lowest(top: u64, bottom: u64) -> Terms
 
 // The sign is put back last: all else goes by sizes.
 pub fn made(like: i64, top: u64, bottom: u64) -> Fraction
-    requires { ⌜ Limited top bottom ⌝ }
+    requires { ⌜ SizesLimited top bottom ⌝ }
     ensures { λ r. ⌜ WithSign like top bottom r ⌝ }
 {
     Fraction {

@@ -15,14 +15,14 @@ use Rattle.list_fractions.specs.Listable.{HoldRow}
 use Rattle.list_fractions.proofs.Places.{places-length, places-at, all-step, all-end}
 
 -- The test of the places from c on says what the test of all says: the places below c have passed it.
-pub record Tested (t : ℕ) (nums dens : List ℤ) (c : ℕ) : Type 0 where
+pub record PlacesTested (t : ℕ) (nums dens : List ℤ) (c : ℕ) : Type 0 where
   pub most : c ≤ COLUMNS
   pub same : allFractions (drop c (placesOf t nums)) (drop c (placesOf t dens)) ≡ allFractions (placesOf t nums) (placesOf t dens)
 
-pub tested-none : (t : ℕ) (nums dens : List ℤ) → Tested t nums dens 0
+pub tested-none : (t : ℕ) (nums dens : List ℤ) → PlacesTested t nums dens 0
 tested-none t nums dens = record { most = omega arith; same = refl }
 
-module _ {t : ℕ} {nums dens : List ℤ} {c : ℕ} (hold : HoldRow t nums dens) (tested : Tested t nums dens c) where
+module _ {t : ℕ} {nums dens : List ℤ} {c : ℕ} (hold : HoldRow t nums dens) (tested : PlacesTested t nums dens c) where
   nums-length : length (placesOf t nums) ≡ COLUMNS
   nums-length = places-length t nums (hold .term) (hold .nums-long)
 
@@ -47,5 +47,5 @@ module _ {t : ℕ} {nums dens : List ℤ} {c : ℕ} (hold : HoldRow t nums dens)
     tested-fails fails = rw (not-true passes fails) at rest
 
     -- one that passes leaves it to the others.
-    pub tested-more : not passes ≡ false → Tested t nums dens (c + 1)
+    pub tested-more : not passes ≡ false → PlacesTested t nums dens (c + 1)
     tested-more fine = record { most = omega arith; same = rw add-one (rw (not-false passes fine) at rest) }

@@ -16,7 +16,7 @@ use Rattle.rules_problem.specs.declared.Term.{Term}
 use Rattle.rules_problem.specs.Record.{Fields, every, unless-faulty, kindOf}
 use Rattle.record_term.specs.declared.TermRead.{TermRead}
 use Rattle.record_term.specs.declared.TermRead.the-variants.{Sound, Faulty}
-use Rattle.record_term.specs.Terms.{zeros, below, soundIf, holdsKind, Faultless, HoldsTerm}
+use Rattle.record_term.specs.Terms.{allZeros, below, soundIf, holdsKind, Faultless, HoldsTerm}
 
 -- The second test is made where the first one holds.
 pub and-came : {Taken Left : Type 0} (a b r : Bool) → (Taken → a ≡ true) → (Left → a ≡ false) → (Taken × (r ≡ b)) ⊎ (Left × (r ≡ a)) → r ≡ (a && b)
@@ -28,10 +28,10 @@ unfoldable pub zerosFrom : Bool → List ℕ → Bool
 zerosFrom b [] = b
 zerosFrom b (x ∷ rest) = zerosFrom (b && eqb x 0) rest
 
-pub zeros-from : (b : Bool) (rest : List ℕ) → (b && zeros rest) ≡ zerosFrom b rest
-unfolding zeros every zerosFrom
+pub zeros-from : (b : Bool) (rest : List ℕ) → (b && allZeros rest) ≡ zerosFrom b rest
+unfolding allZeros every zerosFrom
 zeros-from b [] = and-true b
-zeros-from b (x ∷ rest) = sym (and-assoc b (eqb x 0) (zeros rest)) ∙ zeros-from (b && eqb x 0) rest
+zeros-from b (x ∷ rest) = sym (and-assoc b (eqb x 0) (allZeros rest)) ∙ zeros-from (b && eqb x 0) rest
 
 past-table : (own : ℕ) (f : Fields) → ¬ (f .kind < 9) → kindOf own f ≡ none
 unfolding kindOf
@@ -67,23 +67,23 @@ holds-unless own unused inputs kind = go (every (λ x. eqb x 0) unused && every 
 
 -- A record is sound whose unused fields are zero and whose inputs lie before it.
 module _ (own : ℕ) (unused inputs : List ℕ) (kind : Kind) where
-  sound-is : holdsKind (unless-faulty own unused inputs kind) ≡ (zeros unused && below own inputs)
-  unfolding holdsKind unless-faulty zeros below
+  sound-is : holdsKind (unless-faulty own unused inputs kind) ≡ (allZeros unused && below own inputs)
+  unfolding holdsKind unless-faulty allZeros below
   sound-is = go (every (λ x. eqb x 0) unused && every (λ i. ltb i own) inputs)
     where
       go : (sound : Bool) → holdsKind (cond sound (some kind) none) ≡ sound
       go true = refl
       go false = refl
 
-  pub sound-then : {clear r : Bool} → clear ≡ zeros unused → clear ≡ true → r ≡ below own inputs → r ≡ holdsKind (unless-faulty own unused inputs kind)
+  pub sound-then : {clear r : Bool} → clear ≡ allZeros unused → clear ≡ true → r ≡ below own inputs → r ≡ holdsKind (unless-faulty own unused inputs kind)
   sound-then is taken e = e ∙ sym (ap (λ b. b && below own inputs) (sym is ∙ taken)) ∙ sym sound-is
 
-  pub sound-else : {clear : Bool} → clear ≡ zeros unused → clear ≡ false → clear ≡ holdsKind (unless-faulty own unused inputs kind)
+  pub sound-else : {clear : Bool} → clear ≡ allZeros unused → clear ≡ false → clear ≡ holdsKind (unless-faulty own unused inputs kind)
   sound-else is left = left ∙ sym (ap (λ b. b && below own inputs) (sym is ∙ left)) ∙ sym sound-is
 
-pub sound-alone : (own : ℕ) (unused : List ℕ) (kind : Kind) {r : Bool} → r ≡ zeros unused → r ≡ holdsKind (unless-faulty own unused [] kind)
+pub sound-alone : (own : ℕ) (unused : List ℕ) (kind : Kind) {r : Bool} → r ≡ allZeros unused → r ≡ holdsKind (unless-faulty own unused [] kind)
 unfolding below every
-sound-alone own unused kind e = e ∙ sym (and-true (zeros unused)) ∙ sym (sound-is own unused [] kind)
+sound-alone own unused kind e = e ∙ sym (and-true (allZeros unused)) ∙ sym (sound-is own unused [] kind)
 
 -- What reading a record answers, by whether it holds a term.
 pub sound-holds : (kind : Option Kind) (term : Term) → holdsKind kind ≡ true → HoldsTerm (soundIf kind) term → Sound term ≡ soundIf kind

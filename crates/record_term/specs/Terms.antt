@@ -12,8 +12,8 @@ use Rattle.rules_problem.specs.Record.{fieldsAt, every, kindOf}
 use Rattle.record_term.specs.declared.TermRead.{TermRead}
 use Rattle.record_term.specs.declared.TermRead.the-variants.{Sound, Faulty}
 
-unfoldable pub zeros : List ℕ → Bool
-zeros = every (λ x. eqb x 0)
+unfoldable pub allZeros : List ℕ → Bool
+allZeros = every (λ x. eqb x 0)
 
 unfoldable pub below : (own : ℕ) → List ℕ → Bool
 below own = every (λ i. ltb i own)

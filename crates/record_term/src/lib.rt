@@ -11,7 +11,7 @@ ghost use Rattle.rules_problem.specs.Bits.{signed16};
 ghost use Rattle.rules_problem.specs.Record.{scaled, kindOf};
 ghost use Rattle.record_fields.specs.Contract.{fieldsOf};
 ghost use Rattle.record_term.specs.Contract.{RecordOf, SoundRecord};
-ghost use Rattle.record_term.specs.Terms.{zeros, below, soundIf, holdsKind, termRead, HoldsTerm};
+ghost use Rattle.record_term.specs.Terms.{allZeros, below, soundIf, holdsKind, termRead, HoldsTerm};
 ghost use Rattle.record_term.specs.declared.TermRead.the-variants.{Sound};
 
 pub enum TermRead {
@@ -50,7 +50,7 @@ fn all_zero(
     shift: u8,
     padding: u8,
 ) -> bool
-    ensures { λ r. ⌜ r ≡ zeros (symbol ∷ input1 ∷ input2 ∷ input3 ∷ mantissa ∷ shift ∷ padding ∷ []) ⌝ }
+    ensures { λ r. ⌜ r ≡ allZeros (symbol ∷ input1 ∷ input2 ∷ input3 ∷ mantissa ∷ shift ∷ padding ∷ []) ⌝ }
 {
     symbol == 0
         && input1 == 0

@@ -17,7 +17,7 @@ use Rattle.rules_problem.proofs.Holding.{sides-made, pairs-count, pair-there}
 use Rattle.rules_run.specs.Run.{byNumber, assume}
 use Rattle.run_table.specs.Work.{Work, tableOf, Resting}
 use Rattle.run_table.proofs.Columns.{kept-itself, kept-then}
-use Rattle.run_close.specs.Contract.{stateOf}
+use Rattle.run_merge.specs.Contract.{stateOf}
 use Rattle.run_progress.specs.declared.Ran.{Ran}
 use Rattle.run_progress.specs.declared.Ran.the-variants.{Going, Ended}
 use Rattle.run_progress.specs.Ran.{ran, AtMost, WhileGoing}
@@ -43,7 +43,7 @@ pub record Assuming (bytes : List ℕ) (n m solved : ℕ) (heads inputs : List �
   pub resting : Resting n heads inputs w
 
 -- What assumption k leaves, by its answer: the loop goes on to the next or is over.
-pub record Turned (bytes : List ℕ) (n m solved : ℕ) (heads inputs : List ℕ) (old : Work) (next : ℕ) (w : Work) (answer : Ran) : Type 0 where
+pub record AssumedOne (bytes : List ℕ) (n m solved : ℕ) (heads inputs : List ℕ) (old : Work) (next : ℕ) (w : Work) (answer : Ran) : Type 0 where
   pub on : (more : ℕ) → answer ≡ Going more → Assuming bytes n m solved heads inputs old more next w
   pub stops : (end : Answer) → answer ≡ Ended end → AssumesAll bytes n solved (Ended end) old w
 
@@ -98,7 +98,7 @@ module _ {bytes : List ℕ} {n m solved : ℕ} {heads inputs : List ℕ} {old : 
             (assumes .answers (problem .terms) (ready .prepared .lookups problem held) ∙ ap (λ r. ran r (tableOf n new)) is)
 
         -- Assumption k is assumed.
-        pub assuming-turned : Turned bytes n m solved heads inputs old (k + 1) new answer
+        pub assuming-turned : AssumedOne bytes n m solved heads inputs old (k + 1) new answer
         unfolding ran _>>=_ AtMost WhileGoing
         assuming-turned =
             record {

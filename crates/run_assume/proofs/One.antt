@@ -13,11 +13,11 @@ use Rattle.run_table.specs.Work.{Work, tableOf, Resting}
 use Rattle.run_table.proofs.Columns.{kept-then}
 use Rattle.run_merge.specs.Outcome.{merged, Unstopped}
 use Rattle.run_merge.proofs.Steps.{merges-by-number}
-use Rattle.run_merge.specs.Contract.{Hints, Merges}
+use Rattle.run_merge.specs.Contract.{Hints, stateOf, Merges}
 use Rattle.run_merge.specs.declared.Merged.{Merged}
 use Rattle.run_merge.specs.declared.Merged.the-variants.{Nothing, Solved, Contradiction as Clash, Refused as Outside}
 use Rattle.run_close.specs.declared.AfterClosing.{AfterClosing}
-use Rattle.run_close.specs.Contract.{stateOf, Closable, Closes}
+use Rattle.run_close.specs.Contract.{Closable, Closes}
 use Rattle.run_close.proofs.Sets.{ready-of, serves, ready-merged, merged-awake}
 use Rattle.run_progress.specs.declared.Ran.{Ran}
 use Rattle.run_progress.specs.declared.Ran.the-variants.{Ended}

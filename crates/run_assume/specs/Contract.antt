@@ -15,7 +15,8 @@ use Rattle.run_table.specs.Held.{SoundTo}
 use Rattle.run_table.specs.Loop.{Kept}
 use Rattle.run_table.specs.Sets.{Sparse}
 use Rattle.run_table.specs.Work.{Work, tableOf, Resting}
-use Rattle.run_close.specs.Contract.{stateOf, MOST}
+use Rattle.run_merge.specs.Contract.{stateOf}
+use Rattle.run_close.specs.Contract.{MOST}
 use Rattle.run_progress.specs.declared.Ran.{Ran}
 use Rattle.run_progress.specs.Ran.{ran, AtMost, WhileGoing, Prepared}
 use Rattle.run_assume.specs.Assumed.{assumed}
@@ -46,9 +47,9 @@ pub record Assumes (n place left right solved : ℕ) (heads inputs : List ℕ) (
   pub resting : WhileGoing (Resting n heads inputs new) r
 
 -- what an assumption left
-abbrev pub leftBy : {n place left right solved : ℕ} {heads inputs : List ℕ} {r : Ran} {old new : Work}
+abbrev pub assumedBy : {n place left right solved : ℕ} {heads inputs : List ℕ} {r : Ran} {old new : Work}
     → Assumes n place left right solved heads inputs r old new → Work
-leftBy {new = new} assumes = new
+assumedBy {new = new} assumes = new
 
 -- All of them can: the byte string holds the problem, and m is its number of assumptions.
 pub record AllAssumable (bytes : List ℕ) (n m solved : ℕ) (heads inputs : List ℕ) (w : Work) : Type 0 where

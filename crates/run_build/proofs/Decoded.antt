@@ -21,10 +21,10 @@ use Rattle.rules_problem.proofs.Recorded.{EachBelow, Recorded, variable, consta
 use Rattle.rules_problem.specs.Problem.{Problem, termAt, decoded}
 use Rattle.rules_problem.proofs.Holding.{term-there}
 use Rattle.rules_problem.proofs.Widths.{scaled-in-record}
-use Rattle.run_build_row.specs.Buildable.{Holding, Below, Buildable}
+use Rattle.run_build_row.specs.Buildable.{FractionOf, InputsEarlier, Buildable}
 
 kind-buildable : {own : ℕ} {f : Fields} {kind : Kind} → InRecord (scaled f) → Recorded own f kind → Buildable own kind
-unfolding EachBelow Holding Below
+unfolding EachBelow FractionOf InputsEarlier
 kind-buildable recorded variable = record { inputs = tt; fraction = tt }
 kind-buildable recorded constant = record { inputs = tt; fraction = recorded }
 kind-buildable recorded (gain below) = record { inputs = below .0; fraction = recorded }

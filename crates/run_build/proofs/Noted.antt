@@ -21,7 +21,7 @@ use Rattle.rules_problem.specs.Lookup.{callOf, inputsOf, kindAt}
 use Rattle.rules_problem.proofs.Kind.{the-type}
 use Rattle.run_table.specs.Notes.{headOf, inputOf, LookupsNoted, NotesKept}
 use Rattle.run_table.specs.Sets.{Linked}
-use Rattle.run_build_row.specs.Buildable.{Below}
+use Rattle.run_build_row.specs.Buildable.{InputsEarlier}
 use Rattle.rules_run.specs.Row.{TERMS}
 use Rattle.run_build.specs.declared.call.Numbers.{Numbers}
 use Rattle.run_build.specs.Contract.{Numbered, Notable, CallNoted}
@@ -30,8 +30,8 @@ use Rattle.run_build.proofs.Linking.{opened-same}
 use Rattle.run_table.proofs.Linked.{linked-kept}
 
 -- Inputs below a number are below any larger one.
-below-more : {own more : ℕ} (kind : Kind) → own ≤ more → Below own kind → Below more kind
-unfolding Below
+below-more : {own more : ℕ} (kind : Kind) → own ≤ more → InputsEarlier own kind → InputsEarlier more kind
+unfolding InputsEarlier
 below-more (Variable symbol) h b = tt
 below-more (Constant value) h b = tt
 below-more (Gain factor input) h b = omega arith
@@ -45,30 +45,30 @@ below-more (Lookup3 symbol first second third) h b = omega arith
 small-fits : {x : ℕ} → x < TERMS → Fits w8 x
 small-fits below = record { fits = omega arith }
 
-module _ {kind : Kind} (below : Below TERMS kind) where
+module _ {kind : Kind} (below : InputsEarlier TERMS kind) where
   pub lookup1-input : {symbol input : ℕ} → kind ≡ Lookup1 symbol input → Fits w8 input
-  unfolding Below
-  lookup1-input is = small-fits (subst (Below TERMS) is below)
+  unfolding InputsEarlier
+  lookup1-input is = small-fits (subst (InputsEarlier TERMS) is below)
 
   pub lookup2-first : {symbol first second : ℕ} → kind ≡ Lookup2 symbol first second → Fits w8 first
-  unfolding Below
-  lookup2-first is = small-fits (subst (Below TERMS) is below .0)
+  unfolding InputsEarlier
+  lookup2-first is = small-fits (subst (InputsEarlier TERMS) is below .0)
 
   pub lookup2-second : {symbol first second : ℕ} → kind ≡ Lookup2 symbol first second → Fits w8 second
-  unfolding Below
-  lookup2-second is = small-fits (subst (Below TERMS) is below .1)
+  unfolding InputsEarlier
+  lookup2-second is = small-fits (subst (InputsEarlier TERMS) is below .1)
 
   pub lookup3-first : {symbol first second third : ℕ} → kind ≡ Lookup3 symbol first second third → Fits w8 first
-  unfolding Below
-  lookup3-first is = small-fits (subst (Below TERMS) is below .0)
+  unfolding InputsEarlier
+  lookup3-first is = small-fits (subst (InputsEarlier TERMS) is below .0)
 
   pub lookup3-second : {symbol first second third : ℕ} → kind ≡ Lookup3 symbol first second third → Fits w8 second
-  unfolding Below
-  lookup3-second is = small-fits (subst (Below TERMS) is below .1)
+  unfolding InputsEarlier
+  lookup3-second is = small-fits (subst (InputsEarlier TERMS) is below .1)
 
   pub lookup3-third : {symbol first second third : ℕ} → kind ≡ Lookup3 symbol first second third → Fits w8 third
-  unfolding Below
-  lookup3-third is = small-fits (subst (Below TERMS) is below .2)
+  unfolding InputsEarlier
+  lookup3-third is = small-fits (subst (InputsEarlier TERMS) is below .2)
 
 -- and the numbers are its head, 256 for each input plus the symbol, and its inputs.
 module _ {kind : Kind} {symbol : ℕ} where
@@ -97,7 +97,7 @@ other-numbered (Lookup2 symbol first second) tag = absurd (miss (0 ∷ 1 ∷ 2 �
 other-numbered (Lookup3 symbol first second third) tag = absurd (miss (0 ∷ 1 ∷ 2 ∷ 3 ∷ 4 ∷ []) 7 tt tag)
 
 -- They are stored.
-pub notable-below : {kind : Kind} {t : ℕ} {heads inputs : List ℕ} → Notable kind t heads inputs → Below TERMS kind
+pub notable-below : {kind : Kind} {t : ℕ} {heads inputs : List ℕ} → Notable kind t heads inputs → InputsEarlier TERMS kind
 notable-below {kind} asked = let few = asked .few in below-more kind (omega arith) (asked .below)
 
 pub numbers-noted : {kind : Kind} {t : ℕ} {heads inputs : List ℕ} {numbers : Numbers} → Numbered kind numbers → CallNoted kind t heads inputs (set heads t (numbers .head)) (set (set (set inputs (3 * t) (numbers .first)) (3 * t + 1) (numbers .second)) (3 * t + 2) (numbers .third))
@@ -134,8 +134,8 @@ cons-small x rest first others (suc i) = others i
 none-small : (i : ℕ) → getD {A = ℕ} [] i 0 < TERMS
 none-small i = omega arith
 
-input-small : (kind : Kind) → Below TERMS kind → (i : ℕ) → inputOf kind i < TERMS
-unfolding Below inputOf inputsOf callOf
+input-small : (kind : Kind) → InputsEarlier TERMS kind → (i : ℕ) → inputOf kind i < TERMS
+unfolding InputsEarlier inputOf inputsOf callOf
 input-small (Variable symbol) b = none-small
 input-small (Constant value) b = none-small
 input-small (Gain factor input) b = none-small

@@ -24,7 +24,7 @@ use Rattle.rules_run.specs.Build.{builtColumn, built}
 use Rattle.run_table.specs.declared.Step.{Step}
 use Rattle.run_table.specs.declared.Step.the-variants.{Done, Refused}
 use Rattle.run_table.specs.Notes.{LookupsNoted, NotesKept}
-use Rattle.run_table.specs.Held.{listed, rowAt, tableAt, stepped}
+use Rattle.run_table.specs.Held.{listedFrom, rowAt, tableAt, stepped}
 use Rattle.run_table.specs.Loop.{Kept}
 use Rattle.run_table.specs.Sets.{PENDING, OPEN, Linked, pendingOf}
 use Rattle.run_table.specs.Work.{tableOf, Rows}
@@ -46,8 +46,8 @@ abbrev ALL : ℕ
 ALL = 18446744073709551615
 
 -- One more member stands at the end of a list.
-listed-more {ℓ} : {A : Type ℓ} (g : ℕ → A) (count from : ℕ) → listed (suc count) from g ≡ listed count from g ++ (g (from + count) ∷ [])
-unfolding listed
+listed-more {ℓ} : {A : Type ℓ} (g : ℕ → A) (count from : ℕ) → listedFrom (suc count) from g ≡ listedFrom count from g ++ (g (from + count) ∷ [])
+unfolding listedFrom
 listed-more g zero from = rw add-zero
 listed-more g (suc count) from = rw (add-suc, ← suc-add) (ap (_∷_ (g from)) (listed-more g count (suc from)))
 
@@ -86,7 +86,7 @@ module _ {bytes : List ℕ} {n : ℕ} {old : Store} (asked : Beginnable bytes n 
   count p held = asked .terms ∙ sym (terms-count bytes p held)
 
   pub rising-starts : Rising bytes n 0 old old
-  unfolding tableAt listed
+  unfolding tableAt listedFrom
   rising-starts =
       record {
         reached = omega arith;

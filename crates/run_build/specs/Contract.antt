@@ -21,7 +21,7 @@ use Rattle.run_table.specs.Held.{stepped}
 use Rattle.run_table.specs.Loop.{Kept}
 use Rattle.run_table.specs.Sets.{SETS, usersOf, pendingOf, Linked}
 use Rattle.run_table.specs.Work.{tableOf, Rows}
-use Rattle.run_build_row.specs.Buildable.{Below}
+use Rattle.run_build_row.specs.Buildable.{InputsEarlier}
 use Rattle.run_build.specs.declared.call.Numbers.{Numbers}
 use Rattle.run_build.specs.Links.{InputsSmall, UsedBelow, Traced, Opened, UsersGrown}
 use Rattle.run_build.specs.Store.{Store}
@@ -38,7 +38,7 @@ pub record Notable (kind : Kind) (t : ℕ) (heads inputs : List ℕ) : Type 0 wh
   pub few : t < TERMS
   pub heads-size : length heads ≡ TERMS
   pub inputs-size : length inputs ≡ 3 * TERMS
-  pub below : Below t kind
+  pub below : InputsEarlier t kind
 
 -- The head of term t stands at place t, its inputs at 3t, 3t + 1 and 3t + 2; no other place has changed.
 pub record CallNoted (kind : Kind) (t : ℕ) (heads₀ inputs₀ heads inputs : List ℕ) : Type 0 where

@@ -2,7 +2,7 @@
 use rules_problem::Kind;
 use rules_problem::Term;
 ghost use Rattle.rules_run.specs.Row.{TERMS};
-ghost use Rattle.run_build_row.specs.Buildable.{Below};
+ghost use Rattle.run_build_row.specs.Buildable.{InputsEarlier};
 ghost use Rattle.run_build.specs.Contract.{Numbered, Notable, CallNoted};
 
 // A lookup's head, 256 for each input plus the symbol, and its inputs; 0 where there is none.
@@ -14,7 +14,7 @@ struct Numbers {
 }
 
 fn numbers_of(kind: Kind) -> Numbers
-    requires { ⌜ Below TERMS kind ⌝ }
+    requires { ⌜ InputsEarlier TERMS kind ⌝ }
     ensures { λ r. ⌜ Numbered kind r ⌝ }
 {
     match kind {

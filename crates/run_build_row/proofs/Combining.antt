@@ -15,12 +15,12 @@ use Rattle.rules_run.specs.Row.{cell}
 use Rattle.rules_run.specs.Build.{builtColumn}
 use Rattle.run_table.specs.Held.{tableAt}
 use Rattle.run_table.specs.Lists.{Lists}
-use Rattle.run_build_row.specs.Contract.{columnBuilt, cellAt, Readable, Combinable}
+use Rattle.run_build_row.specs.Contract.{columnBuilt, cellAt, CellReadable, Combinable}
 use Rattle.run_build_row.proofs.Columns.{cell-stands}
 use Rattle.run_build_row.proofs.Inputs.{gain-below, gain-holds, sum-left, sum-right, difference-left, difference-right}
 
 module _ {kind : Kind} {factor : Fraction} {t c : ℕ} {l : Lists} (asked : Combinable kind factor t c l) where
-  pub earlier-read : {input : ℕ} → input < t → Readable input c l
+  pub earlier-read : {input : ℕ} → input < t → CellReadable input c l
   earlier-read before =
       let room = asked .rows .room in
       record { room = record { few = omega arith; nums-fit = room .nums-fit; dens-fit = room .dens-fit }; column = asked .column }

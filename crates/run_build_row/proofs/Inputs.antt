@@ -5,35 +5,35 @@ use Prim.Native.Nat.{ℕ, _<_}
 use Rattle.fraction.specs.declared.Scaled.{Scaled}
 use Rattle.rules_problem.specs.declared.Kind.{Kind}
 use Rattle.rules_problem.specs.declared.Kind.the-variants.{Constant, Gain, Sum, Difference}
-use Rattle.run_build_row.specs.Buildable.{Holding, Below}
+use Rattle.run_build_row.specs.Buildable.{FractionOf, InputsEarlier}
 
-module _ {own : ℕ} {kind : Kind} (inputs : Below own kind) where
+module _ {own : ℕ} {kind : Kind} (inputs : InputsEarlier own kind) where
   pub gain-below : {factor : Scaled} {input : ℕ} → kind ≡ Gain factor input → input < own
-  unfolding Below
-  gain-below is = subst (Below own) is inputs
+  unfolding InputsEarlier
+  gain-below is = subst (InputsEarlier own) is inputs
 
   pub sum-left : {left right : ℕ} → kind ≡ Sum left right → left < own
-  unfolding Below
-  sum-left is = subst (Below own) is inputs .0
+  unfolding InputsEarlier
+  sum-left is = subst (InputsEarlier own) is inputs .0
 
   pub sum-right : {left right : ℕ} → kind ≡ Sum left right → right < own
-  unfolding Below
-  sum-right is = subst (Below own) is inputs .1
+  unfolding InputsEarlier
+  sum-right is = subst (InputsEarlier own) is inputs .1
 
   pub difference-left : {left right : ℕ} → kind ≡ Difference left right → left < own
-  unfolding Below
-  difference-left is = subst (Below own) is inputs .0
+  unfolding InputsEarlier
+  difference-left is = subst (InputsEarlier own) is inputs .0
 
   pub difference-right : {left right : ℕ} → kind ≡ Difference left right → right < own
-  unfolding Below
-  difference-right is = subst (Below own) is inputs .1
+  unfolding InputsEarlier
+  difference-right is = subst (InputsEarlier own) is inputs .1
 
 -- A constant and a gain hold a fraction as the term should.
-module _ (P : Scaled → Type 0) {kind : Kind} (fraction : Holding P kind) where
+module _ (P : Scaled → Type 0) {kind : Kind} (fraction : FractionOf P kind) where
   pub constant-holds : {s : Scaled} → kind ≡ Constant s → P s
-  unfolding Holding
-  constant-holds is = subst (Holding P) is fraction
+  unfolding FractionOf
+  constant-holds is = subst (FractionOf P) is fraction
 
   pub gain-holds : {factor : Scaled} {input : ℕ} → kind ≡ Gain factor input → P factor
-  unfolding Holding
-  gain-holds is = subst (Holding P) is fraction
+  unfolding FractionOf
+  gain-holds is = subst (FractionOf P) is fraction

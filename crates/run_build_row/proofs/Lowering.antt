@@ -14,22 +14,22 @@ use Rattle.fraction_reduce.proofs.Tests.{zero-stands}
 use Rattle.rules_problem.specs.declared.Kind.{Kind}
 use Rattle.rules_problem.specs.declared.Kind.the-variants.{Variable, Constant, Gain, Sum, Difference, Lookup1, Lookup2, Lookup3}
 use Rattle.rules_problem.proofs.Kind.{the-type}
-use Rattle.run_build_row.specs.Buildable.{Holding, FactorOf}
+use Rattle.run_build_row.specs.Buildable.{FractionOf, FactorOf}
 
 pub constant-factor : {kind : Kind} {s : Scaled} {f : Fraction} → kind ≡ Constant s → Stands f (worth s) → FactorOf kind f
-unfolding Holding
+unfolding FractionOf
 constant-factor {f = f} is stands = subst (λ k. FactorOf k f) (sym is) (record { good = stands .good; same = stands .same })
 
 pub gain-factor : {kind : Kind} {s : Scaled} {f : Fraction} {input : ℕ} → kind ≡ Gain s input → Stands f (worth s) → FactorOf kind f
-unfolding Holding
+unfolding FractionOf
 gain-factor {f = f} is stands = subst (λ k. FactorOf k f) (sym is) (record { good = stands .good; same = stands .same })
 
 -- Any other term holds no fraction.
 pub no-factor : (kind : Kind) → OneOf (0 ∷ 3 ∷ 4 ∷ 5 ∷ 6 ∷ 7 ∷ []) (tagOf the-type kind) → FactorOf kind (record { num = pos 0; den = pos 1 })
-unfolding Holding
+unfolding FractionOf
 no-factor kind tag = record { good = zero-stands refl refl .good; same = none kind tag }
   where
-    none : (k : Kind) → OneOf (0 ∷ 3 ∷ 4 ∷ 5 ∷ 6 ∷ 7 ∷ []) (tagOf the-type k) → Holding (λ s. value (record { num = pos 0; den = pos 1 }) ≡ worth s) k
+    none : (k : Kind) → OneOf (0 ∷ 3 ∷ 4 ∷ 5 ∷ 6 ∷ 7 ∷ []) (tagOf the-type k) → FractionOf (λ s. value (record { num = pos 0; den = pos 1 }) ≡ worth s) k
     none (Variable symbol) tag = tt
     none (Constant held) tag = absurd (miss (0 ∷ 3 ∷ 4 ∷ 5 ∷ 6 ∷ 7 ∷ []) 1 tt tag)
     none (Gain factor input) tag = absurd (miss (0 ∷ 3 ∷ 4 ∷ 5 ∷ 6 ∷ 7 ∷ []) 2 tt tag)

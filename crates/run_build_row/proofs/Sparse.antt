@@ -31,7 +31,7 @@ use Rattle.run_table.proofs.OverSet.{Leaves}
 use Rattle.run_table.proofs.Sparse.{zero-numerator}
 use Rattle.run_fill.specs.Contract.{Filled}
 use Rattle.run_fill.proofs.Filling.{filling-goes-on}
-use Rattle.run_build_row.specs.Buildable.{Below}
+use Rattle.run_build_row.specs.Buildable.{InputsEarlier}
 use Rattle.run_build_row.specs.Contract.{Room, Blanks}
 use Rattle.run_build_row.specs.Sparse.{mayHold, Covered, Blank}
 use Rattle.run_build_row.proofs.Building.{table-kept}
@@ -90,8 +90,8 @@ module _ (nums dens : List ℤ) (sets : List ℕ) (t : ℕ) (sound : SoundTo (CO
       let stands = cell-stands nums dens t s c sound before (omega arith) refl in
       sym (stands .same) ∙ zero-numerator (stands .good) (sparse .within s before .zero c below out)
 
-  may-hold-zero : (kind : Kind) (c : ℕ) → Below t kind → c < TERMS → mayHold sets t kind c ≡ false → builtColumn (tableAt t nums dens) t kind c ≡ made zeroℚ
-  unfolding builtColumn mayHold Below times plus minus
+  may-hold-zero : (kind : Kind) (c : ℕ) → InputsEarlier t kind → c < TERMS → mayHold sets t kind c ≡ false → builtColumn (tableAt t nums dens) t kind c ≡ made zeroℚ
+  unfolding builtColumn mayHold InputsEarlier times plus minus
   may-hold-zero (Variable symbol) c inputs below out = alone-zero t _ c out
   may-hold-zero (Constant held) c inputs below out = alone-zero constant (worth held) c (ne-eqb c constant (λ same. omega arith))
   may-hold-zero (Gain factor input) c inputs below out =
@@ -106,7 +106,7 @@ module _ (nums dens : List ℤ) (sets : List ℕ) (t : ℕ) (sound : SoundTo (CO
   may-hold-zero (Lookup2 symbol first second) c inputs below out = alone-zero t _ c out
   may-hold-zero (Lookup3 symbol first second third) c inputs below out = alone-zero t _ c out
 
-  pub may-hold-covers : (kind : Kind) (columns : ℕ) {end : ℕ} {nums′ dens′ : List ℤ} → Below t kind → ((c : ℕ) → holds columns c ≡ mayHold sets t kind c) → Kept (COLUMNS * t) end nums dens nums′ dens′ → Covered columns (builtColumn (tableAt t nums′ dens′) t kind)
+  pub may-hold-covers : (kind : Kind) (columns : ℕ) {end : ℕ} {nums′ dens′ : List ℤ} → InputsEarlier t kind → ((c : ℕ) → holds columns c ≡ mayHold sets t kind c) → Kept (COLUMNS * t) end nums dens nums′ dens′ → Covered columns (builtColumn (tableAt t nums′ dens′) t kind)
   may-hold-covers kind columns inputs told kept =
       record { zero = λ c below out. ap (λ table. builtColumn table t kind c) (table-kept t kept) ∙ may-hold-zero kind c inputs below (sym (told c) ∙ out) }
 

@@ -23,7 +23,7 @@ use Rattle.run_table.specs.Lists.{Lists}
 use Rattle.run_table.specs.Loop.{Kept, RowMade}
 use Rattle.run_table.specs.Sets.{SETS, Within, Sparse}
 use Rattle.run_table.specs.Work.{Work, Rows}
-use Rattle.run_build_row.specs.Buildable.{Below, Buildable, FactorOf, Combined}
+use Rattle.run_build_row.specs.Buildable.{InputsEarlier, Buildable, FactorOf, Combined}
 use Rattle.run_build_row.specs.Sparse.{Covered, Blank}
 
 -- column c of row t as the rule makes it of the rows before it
@@ -41,7 +41,7 @@ pub record Room (t : ℕ) (l : Lists) : Type 0 where
   pub dens-fit : PLACES ≤ length (l .dens)
 
 -- They have column c of that row.
-pub record Readable (t c : ℕ) (l : Lists) : Type 0 where
+pub record CellReadable (t c : ℕ) (l : Lists) : Type 0 where
   pub room : Room t l
   pub column : c < COLUMNS
 
@@ -54,7 +54,7 @@ pub record Behind (t : ℕ) (l : Lists) : Type 0 where
 pub record Combinable (kind : Kind) (factor : Fraction) (t c : ℕ) (l : Lists) : Type 0 where
   pub rows : Behind t l
   pub column : c < COLUMNS
-  pub inputs : Below t kind
+  pub inputs : InputsEarlier t kind
   pub fraction : FactorOf kind factor
   pub combined : Combined kind
 
@@ -67,7 +67,7 @@ pub record Blanks (t : ℕ) (old new : Lists) : Type 0 where
 pub record Coverable (kind : Kind) (t : ℕ) (sets : List ℕ) : Type 0 where
   pub few : t < TERMS
   pub size : length sets ≡ SETS
-  pub inputs : Below t kind
+  pub inputs : InputsEarlier t kind
 
 -- Row t is blank, behind sound rows.
 pub record Blanked (t : ℕ) (l : Lists) : Type 0 where
@@ -88,7 +88,7 @@ pub record StandsAlone (t only : ℕ) (q : ℚ) (step : Step) (old new : Lists) 
 -- Row t is blank, its term can be built, and the rule makes 0 of each term's column outside the set.
 pub record Makeable (kind : Kind) (factor : Fraction) (t columns : ℕ) (l : Lists) : Type 0 where
   pub row : Blanked t l
-  pub inputs : Below t kind
+  pub inputs : InputsEarlier t kind
   pub fraction : FactorOf kind factor
   pub covered : Covered columns (columnBuilt kind t l)
 

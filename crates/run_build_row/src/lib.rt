@@ -14,8 +14,8 @@ ghost use Rattle.fraction.specs.InRecord.{InRecord};
 ghost use Rattle.fraction_reduce.specs.Values.{Answers};
 ghost use Rattle.run_table.specs.Lists.{lists, atEntry, atExit};
 ghost use Rattle.run_table.specs.Work.{lent, entered, leaving};
-ghost use Rattle.run_build_row.specs.Buildable.{Holding, FactorOf};
-ghost use Rattle.run_build_row.specs.Contract.{columnBuilt, cellAt, Room, Readable, Combinable, Blanks, Coverable};
+ghost use Rattle.run_build_row.specs.Buildable.{FractionOf, FactorOf};
+ghost use Rattle.run_build_row.specs.Contract.{columnBuilt, cellAt, Room, CellReadable, Combinable, Blanks, Coverable};
 ghost use Rattle.run_build_row.specs.Contract.{Blanked, Placeable, StandsAlone, Makeable, Joinable, Makes, TermBuildable, TermBuilt};
 ghost use Rattle.run_build_row.specs.Sparse.{mayHold};
 
@@ -24,7 +24,7 @@ const CONSTANT: usize = TERMS;
 
 // Column c of row t.
 fn cell(nums: &[i32], dens: &[i32], t: usize, c: usize) -> Fraction
-    requires { ⌜ Readable t c (lists nums dens) ⌝ }
+    requires { ⌜ CellReadable t c (lists nums dens) ⌝ }
     ensures { λ r. ⌜ r ≡ cellAt t c (atEntry nums dens) ⌝ }
 {
     run_table::get(nums, dens, COLUMNS * t + c)
@@ -59,7 +59,7 @@ fn built_column(
 
 // The fraction of a constant or a gain in lowest terms; 0 for the other kinds, which hold none.
 fn factor_of(kind: Kind) -> Fraction
-    requires { ⌜ Holding InRecord kind ⌝ }
+    requires { ⌜ FractionOf InRecord kind ⌝ }
     ensures { λ r. ⌜ FactorOf kind r ⌝ }
 {
     match kind {

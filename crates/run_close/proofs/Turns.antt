@@ -24,7 +24,7 @@ use Rattle.run_table.specs.Loop.{Kept}
 use Rattle.run_table.specs.Sets.{RIGHTS, pendingOf, openOf, Looked}
 use Rattle.run_table.specs.Work.{Work, withSets, tableOf, Serving, Resting}
 use Rattle.run_table.proofs.Columns.{kept-itself, kept-then}
-use Rattle.run_due_pair.specs.Found.{Below, pairOf}
+use Rattle.run_due_pair.specs.Found.{PairBelow, pairOf}
 use Rattle.run_due_pair.specs.Contract.{Searchable, FindsDue}
 use Rattle.run_due_pair.proofs.Passed.{none-waiting}
 use Rattle.run_due_pair.proofs.Woken.{closed-sleeps, pending-awake}
@@ -32,12 +32,12 @@ use Rattle.run_due_pair.specs.declared.Due.{Due}
 use Rattle.run_due_pair.specs.declared.Due.the-variants.{Pair as Found, NoneDue}
 use Rattle.run_merge.specs.Outcome.{merged, Unstopped}
 use Rattle.run_merge.proofs.Steps.{merges-by-number}
-use Rattle.run_merge.specs.Contract.{Mergeable, Hints, Merges}
+use Rattle.run_merge.specs.Contract.{Mergeable, Hints, stateOf, Merges}
 use Rattle.run_merge.specs.declared.Merged.{Merged}
 use Rattle.run_merge.specs.declared.Merged.the-variants.{Nothing, Solved, Contradiction as Clash, Refused as Outside}
 use Rattle.run_close.specs.declared.AfterClosing.the-variants.{Going, Contradiction, Refused}
 use Rattle.run_close.specs.Outcome.{closed, Counted, WhileOpen}
-use Rattle.run_close.specs.Contract.{stateOf, Closes}
+use Rattle.run_close.specs.Contract.{Closes}
 use Rattle.run_close.specs.Woken.{Woken}
 use Rattle.run_close.proofs.Sets.{Ready, ready-of, serves, ready-merged, ready-kept, ready-woken, ready-shut, shut-watched, woken-watched}
 
@@ -157,8 +157,8 @@ module _ {n solved : ℕ} {heads inputs : List ℕ} {old : Work} {count turns : 
       -- The pair due is merged, its right side shut.
       module _ {left right : ℕ} (is-pair : found ≡ Found left right) (shut : ℕ) where
         pub pair-below : (left < right) × (right < n)
-        unfolding Below
-        pair-below = subst (Below n) is-pair (finds .below)
+        unfolding PairBelow
+        pair-below = subst (PairBelow n) is-pair (finds .below)
 
         pub closing-merges : Mergeable n left right (withSets w (set sets₁ 193 shut))
         closing-merges = let order = pair-below in record { rows = ready-shut served shut .rows; left = omega arith; right = omega arith }

@@ -6,19 +6,15 @@ use Prim.Native.Nat.{ℕ, _+_, _*_, _≤_}
 use lib.ListN.{length}
 use Rattle.rules_problem.specs.declared.Term.{Term}
 use Rattle.rules_run.specs.Row.{COLUMNS}
-use Rattle.rules_run.specs.Merge.{State}
 use Rattle.rules_run.specs.Close.{close}
 use Rattle.rules_run.specs.Run.{byNumber}
 use Rattle.run_table.specs.Notes.{Lookups}
 use Rattle.run_table.specs.Held.{SoundTo}
 use Rattle.run_table.specs.Loop.{Kept}
 use Rattle.run_table.specs.Work.{Work, tableOf, Resting}
+use Rattle.run_merge.specs.Contract.{stateOf}
 use Rattle.run_close.specs.declared.AfterClosing.{AfterClosing}
 use Rattle.run_close.specs.Outcome.{closed, Counted, WhileOpen}
-
--- the state that the lists and the count hold
-abbrev pub stateOf : (n : ℕ) → Work → (solved : ℕ) → State
-stateOf n w solved = record { table = tableOf n w; solved = solved }
 
 -- A count of solved unknowns that closing takes: far above what a run comes to, and far from wrapping.
 abbrev pub MOST : ℕ

@@ -25,7 +25,7 @@ use Rattle.run_table.specs.Work.{Work, tableOf, Serving}
 use Rattle.run_equal_rows.specs.Contract.{Comparable}
 use Rattle.run_due_pair.specs.declared.Due.{Due}
 use Rattle.run_due_pair.specs.declared.Due.the-variants.{Pair as Found, NoneDue}
-use Rattle.run_due_pair.specs.Found.{sameInput, sameInputs, leftFor, pairAmong, leftAmong, pairOf, Below, RightPassed}
+use Rattle.run_due_pair.specs.Found.{sameInput, sameInputs, leftFor, pairAmong, leftAmong, pairOf, PairBelow, RightPassed}
 use Rattle.run_due_pair.specs.Contract.{Alike, InputsComparable, PairComparable, TellsDue, OpenWaiting, LeftsSearchable, FindsLeft, Searchable, FindsDue}
 use Rattle.run_due_pair.proofs.Heads.{no-lookup, one-head, due-alike, due-unlike}
 use Rattle.run_due_pair.proofs.Passed.{among-there, among-passed, left-watched, rights-passed, watched-passed}
@@ -101,7 +101,7 @@ module _ {n j : ℕ} {heads inputs : List ℕ} {w : Work} (asked : LeftsSearchab
   module _ {rest i : ℕ} (choosing : Choosing n lefts j heads inputs w rest i) where
     -- None of them is due.
     pub choosing-over : j ≤ i → FindsLeft n lefts j heads inputs w NoneDue
-    unfolding pairOf Below
+    unfolding pairOf PairBelow
     choosing-over over = record { pair = λ terms lookups. choosing .same terms lookups ∙ first-over _ j i over; below = tt }
 
     module _ (before : i < j) {r : Bool} (tells : TellsDue n i j heads inputs w r) where
@@ -113,7 +113,7 @@ module _ {n j : ℕ} {heads inputs : List ℕ} {w : Work} (asked : LeftsSearchab
 
       -- This one is,
       pub choosing-found : r ≡ true → FindsLeft n lefts j heads inputs w (Found i j)
-      unfolding pairOf Below
+      unfolding pairOf PairBelow
       choosing-found is =
           record {
             pair = λ terms lookups. choosing .same terms lookups ∙ first-found _ j i _ before (given terms lookups ∙ ap (λ b. cond b (some (record { left = i; right = j })) none) is);
@@ -170,7 +170,7 @@ module _ {n : ℕ} {heads inputs waiting₀ : List ℕ} {w : Work} (asked : Sear
 
     -- No right side is left.
     pub searching-over : n ≤ j → FindsDue n heads inputs waiting w NoneDue
-    unfolding pairOf Below
+    unfolding pairOf PairBelow
     searching-over over =
         record {
           pair = λ terms lookups. due-searched terms (tableOf n w) n (lookups .count) ∙ first-nowhere (leftFor terms (tableOf n w)) n (λ k below. searching .none-yet terms lookups k (omega arith) below);
@@ -193,7 +193,7 @@ module _ {n : ℕ} {heads inputs waiting₀ : List ℕ} {w : Work} (asked : Sear
                 due-searched terms (tableOf n w) n (lookups .count)
                 ∙ first-skips (leftFor terms (tableOf n w)) n 0 j (omega arith) (λ k above short low. searching .none-yet terms lookups k short low)
                 ∙ first-found _ n j _ below (left-is terms lookups ∙ ap pairOf is);
-            below = subst (Below n) is (finds .below);
+            below = subst (PairBelow n) is (finds .below);
             serving = served;
           }
 

@@ -16,7 +16,7 @@ use Rattle.run_table.specs.Notes.{headOf, symbolOf, Lookups, InputsBelow, Notes
 use Rattle.run_table.specs.Sets.{RIGHTS, pendingOf, openOf}
 use Rattle.run_table.specs.Work.{Work, tableOf, Rows, Serving}
 use Rattle.run_due_pair.specs.declared.Due.{Due}
-use Rattle.run_due_pair.specs.Found.{leftAmong, pairOf, Below}
+use Rattle.run_due_pair.specs.Found.{leftAmong, pairOf, PairBelow}
 
 -- The heads of terms i and j tell whether they are lookups of one function, whatever kinds the heads are of.
 pub record Alike (i j : ℕ) (heads : List ℕ) (r : Bool) : Type 0 where
@@ -53,7 +53,7 @@ pub record LeftsSearchable (n j : ℕ) (heads inputs : List ℕ) (w : Work) : Ty
 
 pub record FindsLeft (n lefts j : ℕ) (heads inputs : List ℕ) (w : Work) (r : Due) : Type 0 where
   pub pair : (terms : List Term) → Lookups terms n heads inputs → leftAmong lefts terms (tableOf n w) j ≡ pairOf r
-  pub below : Below n r
+  pub below : PairBelow n r
 
 -- The search can begin: the sets serve, and whatever was pending waits now, pair by pair.
 pub record Searchable (n : ℕ) (heads inputs waiting : List ℕ) (w : Work) : Type 0 where
@@ -64,7 +64,7 @@ pub record Searchable (n : ℕ) (heads inputs waiting : List ℕ) (w : Work) : T
 -- The pair found is the rule's, of whatever terms the notes are; and the sets serve with what waits afterwards.
 pub record FindsDue (n : ℕ) (heads inputs waiting : List ℕ) (w : Work) (r : Due) : Type 0 where
   pub pair : (terms : List Term) → Lookups terms n heads inputs → due terms (tableOf n w) ≡ pairOf r
-  pub below : Below n r
+  pub below : PairBelow n r
   pub serving : Serving n heads inputs waiting w
 
 -- what waits afterwards

@@ -1,5 +1,5 @@
 -- The search for the pair due, on lookups as numbers.
--- Main definitions: `sameInputs`, `leftFor`, `leftAmong`, `pairOf`, `Below`, `RightPassed`. Assume nothing.
+-- Main definitions: `sameInputs`, `leftFor`, `leftAmong`, `pairOf`, `PairBelow`, `RightPassed`. Assume nothing.
 use mathlib.Core.Path.{_≡_}
 use mathlib.Core.Logic.{_≢_}
 use mathlib.Core.Bool.{Bool, not, cond, _&&_}
@@ -46,9 +46,9 @@ pairOf (Found left right) = some (record { left = left; right = right })
 pairOf NoneDue = none
 
 -- a pair found is i < j < n
-unfoldable pub Below : (n : ℕ) → Due → Type 0
-Below n (Found left right) = (left < right) × (right < n)
-Below n NoneDue = Unit {0}
+unfoldable pub PairBelow : (n : ℕ) → Due → Type 0
+PairBelow n (Found left right) = (left < right) × (right < n)
+PairBelow n NoneDue = Unit {0}
 
 -- No lookup waits to be compared with j any more; what else waits stays.
 pub record RightPassed (j : ℕ) (waiting₀ waiting : List ℕ) : Type 0 where

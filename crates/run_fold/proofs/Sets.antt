@@ -26,18 +26,18 @@ use Rattle.run_table.specs.declared.Step.the-variants.{Done}
 use Rattle.run_table.specs.Held.{heldAt, rowAt}
 use Rattle.run_table.specs.Lists.{Lists, both}
 use Rattle.run_table.specs.Loop.{RowMade}
-use Rattle.run_table.specs.Sets.{Within, columnsOf, usersOf, pendingOf, Sparse, Stirred}
+use Rattle.run_table.specs.Sets.{PENDING, Within, columnsOf, usersOf, pendingOf, Sparse, Stirred}
 use Rattle.run_table.specs.Work.{Work}
 use Rattle.run_table.proofs.Columns.{column-held, kept-row}
 use Rattle.run_table.proofs.Sparse.{zero-numerator, stirred-itself}
 use Rattle.run_table.proofs.Stirred.{within-kept}
 use Rattle.run_table.proofs.Turns.{stepped-done}
-use Rattle.run_fold.specs.Contract.{PENDING, Notable, Noted, FoldableAt, FoldsAt, FoldableRow, FoldsRow}
+use Rattle.run_fold.specs.Contract.{SetsNotable, Noted, FoldableAt, FoldsAt, FoldableRow, FoldsRow}
 use Rattle.run_fold.proofs.Cells.{folded-solved}
 use Rattle.run_fold.proofs.Columns.{column-stands}
 
 -- The two stores of a noting.
-pub sets-noted : (t p set : ℕ) {sets : List ℕ} (both-sets columns pending : ℕ) → Notable t p sets
+pub sets-noted : (t p set : ℕ) {sets : List ℕ} (both-sets columns pending : ℕ) → SetsNotable t p sets
     → ((c : ℕ) → holds both-sets c ≡ (holds (getD sets t 0) c || holds set c))
     → ((c : ℕ) → holds columns c ≡ (not (eqb c p) && holds both-sets c))
     → ((j : ℕ) → holds pending j ≡ (holds (getD sets PENDING 0) j || holds (getD sets (TERMS + t) 0) j))

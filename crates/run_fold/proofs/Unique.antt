@@ -11,9 +11,9 @@ use Rattle.unique.specs.Twice.{Twice}
 use Rattle.set_members.proofs.Unique.{sets-equal}
 use Rattle.rules_run.specs.Row.{TERMS, COLUMNS}
 use Rattle.run_table.specs.Lists.{lists}
-use Rattle.run_table.specs.Sets.{columnsOf, pendingOf}
+use Rattle.run_table.specs.Sets.{PENDING, columnsOf, pendingOf}
 use Rattle.run_table.proofs.SameEnd.{SameEnd, SameLinks, table-same-end, stirred-alike}
-use Rattle.run_fold.specs.Contract.{PENDING, Noted}
+use Rattle.run_fold.specs.Contract.{Noted}
 use Rattle.run_fold.proofs.fold_rows.Kinds.{ps, r}
 use Rattle.run_fold.proofs.fold_rows.Reads.{Post}
 

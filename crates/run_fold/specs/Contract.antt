@@ -1,5 +1,5 @@
 -- What the functions of a fold ask for, and what they ensure: of one number, of the columns of a row, of a row and its sets, of all rows.
--- Main definitions: `Gainable`, `GainableRow`, `GainsRow`, `FoldableAt`, `FoldsAt`, `Notable`, `Noted`, `FoldableRow`, `FoldsRow`,
+-- Main definitions: `Gainable`, `GainableRow`, `GainsRow`, `FoldableAt`, `FoldsAt`, `SetsNotable`, `Noted`, `FoldableRow`, `FoldsRow`,
 -- `Passable`, `Passed`, `Foldable`, `Folds`. Assume nothing.
 use mathlib.Core.Path.{_≡_}
 use mathlib.Core.Logic.{_⊎_, _≢_}
@@ -22,17 +22,9 @@ use Rattle.run_table.specs.Held.{SoundTo, stepped}
 use Rattle.run_table.specs.Lists.{Lists, both, rowIn, RowHeld, RowWithin, Unknown}
 use Rattle.run_table.specs.Loop.{Kept, RowMade}
 use Rattle.run_table.specs.Reached.{reached}
-use Rattle.run_table.specs.Sets.{columnsOf, usersOf, pendingOf, Sparse, Stirred}
+use Rattle.run_table.specs.Sets.{SETS, PENDING, columnsOf, usersOf, pendingOf, Sparse, Stirred}
 use Rattle.run_table.specs.Work.{Work, tableOf, Rows}
 use Rattle.run_fold.specs.Cell.{gainedColumn}
-
--- the sets of a run, in one list
-abbrev pub SETS : ℕ
-SETS = 194
-
--- the place in it of the lookups that closing has to look at again
-abbrev pub PENDING : ℕ
-PENDING = 192
 
 -- a coefficient, a number of the form, and one that gains the first times the second
 pub record Gainable (k form old : Fraction) : Type 0 where
@@ -69,7 +61,7 @@ pub record FoldsAt (base p : ℕ) (form : Lists) (step : Step) (old new : Lists)
   pub row-made : RowMade (foldedIn base p old form) base (base + COLUMNS) step (old .nums) (old .dens) (new .nums) (new .dens)
 
 -- a row and an unknown to be noted in the sets
-pub record Notable (t p : ℕ) (sets : List ℕ) : Type 0 where
+pub record SetsNotable (t p : ℕ) (sets : List ℕ) : Type 0 where
   pub row : t < TERMS
   pub unknown : p < TERMS
   pub size : length sets ≡ SETS

@@ -12,7 +12,7 @@ ghost use Rattle.run_table.specs.Lists.{lists, atEntry, atExit};
 ghost use Rattle.run_table.specs.Work.{lent, entered, leaving};
 ghost use Rattle.run_fold.specs.Cell.{gainedBy};
 ghost use Rattle.run_fold.specs.Contract.{Gainable, GainableRow, GainsRow, FoldableAt, FoldsAt};
-ghost use Rattle.run_fold.specs.Contract.{Notable, Noted, FoldableRow, FoldsRow, Passable, Passed, Foldable, Folds};
+ghost use Rattle.run_fold.specs.Contract.{SetsNotable, Noted, FoldableRow, FoldsRow, Passable, Passed, Foldable, Folds};
 
 // A number of a row gains k times the form's: one product, one sum. Where k is 1 the product is the form's own number, which is within the
 // limits already, so that only the sum is made.
@@ -93,7 +93,7 @@ fn fold_columns(
 // What the sets say once the form of p is folded into row t: the row can have the columns of the form's set too, and p no more; and the
 // lookups that t is an input of have to be looked at again, since the row of their input has changed.
 fn note(sets: &mut [u64], t: usize, p: usize, set: u64)
-    requires { ⌜ Notable t p (now sets) ⌝ }
+    requires { ⌜ SetsNotable t p (now sets) ⌝ }
     ensures { λ r. ⌜ Noted t p set (now (sets .entry)) (now (sets .exit)) ⌝ }
 {
     let columns = set_members::without(set_members::union(sets[t], set), p);

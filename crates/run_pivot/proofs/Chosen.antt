@@ -18,7 +18,7 @@ use Rattle.run_table.specs.Lists.{Lists, rowIn, Unknown, RowWithin}
 use Rattle.run_table.proofs.Lists.{column-nothing}
 use Rattle.run_pivot.specs.declared.Found.{Found}
 use Rattle.run_pivot.specs.declared.Found.the-variants.{At, Nothing}
-use Rattle.run_pivot.specs.Contract.{preferring, pivoted, Highest, Finds, Pivots}
+use Rattle.run_pivot.specs.Contract.{preferring, pivoted, Highest, FindsHighest, Pivots}
 
 -- How a column ranks: above all others if it is preferred, else by its number.
 module _ (preferred c : ℕ) where
@@ -84,7 +84,7 @@ module _ (set preferred both : ℕ) {d : Lists} (row : RowWithin set 0 d) (share
       by true false s p e = let never : _≡_ {A = ℕ} 0 1 = cc in absurd (omega arith)
       by false b s p e = let never : _≡_ {A = ℕ} 0 1 = cc in absurd (omega arith)
 
-  taken-preferred : {found : Found} {p : ℕ} → Finds both d found → found ≡ At p → Pivots set preferred d (At p)
+  taken-preferred : {found : Found} {p : ℕ} → FindsHighest both d found → found ≡ At p → Pivots set preferred d (At p)
   unfolding pivoted
   taken-preferred {p = p} finds at = record {
     chosen = pivot-is preferred (rowIn d 0) (record { below = top .unknown .term; nonzero = top .nonzero; highest = ranks });
@@ -105,7 +105,7 @@ module _ (set preferred both : ℕ) {d : Lists} (row : RowWithin set 0 d) (share
           by true there (no not-above) = omega (arith, of-p, ranks-above preferred c there)
           by false there above = omega (arith, of-p, ranks-as-number preferred c there)
 
-  taken-other : {first found : Found} → Finds both d first → first ≡ Nothing → Finds set d found → Pivots set preferred d found
+  taken-other : {first found : Found} → FindsHighest both d first → first ≡ Nothing → FindsHighest set d found → Pivots set preferred d found
   unfolding pivoted
   taken-other {first} {found} before none-preferred finds = by found finds
     where
@@ -116,7 +116,7 @@ module _ (set preferred both : ℕ) {d : Lists} (row : RowWithin set 0 d) (share
           of true there = absurd (nonzero (before .zeros none-preferred c below (in-both c (in-set c below nonzero) there)))
           of false there = refl
 
-      by : (found : Found) → Finds set d found → Pivots set preferred d found
+      by : (found : Found) → FindsHighest set d found → Pivots set preferred d found
       by (At p) finds = record {
         chosen = pivot-is preferred (rowIn d 0) (record { below = top .unknown .term; nonzero = top .nonzero; highest = λ c below nonzero. ranks c below nonzero (decLt p c) });
         unknown = λ q same-at. finds .highest q same-at .unknown;
@@ -141,11 +141,11 @@ module _ (set preferred both : ℕ) {d : Lists} (row : RowWithin set 0 d) (share
               of true there = finds .zeros refl c below there
               of false there = column-nothing row c below there
 
-module _ {set preferred both : ℕ} {d : Lists} {first : Found} (row : RowWithin set 0 d) (shared : (k : ℕ) → holds both k ≡ (holds set k && holds preferred k)) (before : Finds both d first) where
+module _ {set preferred both : ℕ} {d : Lists} {first : Found} (row : RowWithin set 0 d) (shared : (k : ℕ) → holds both k ≡ (holds set k && holds preferred k)) (before : FindsHighest both d first) where
   -- A preferred unknown is left: the highest of them is solved.
   pub chooses-preferred : {p : ℕ} → first ≡ At p → Pivots set preferred d (At p)
   chooses-preferred at = taken-preferred set preferred both row shared before at
 
   -- None is: the highest unknown of all is solved, or there is none.
-  pub chooses-other : {found : Found} → first ≡ Nothing → Finds set d found → Pivots set preferred d found
+  pub chooses-other : {found : Found} → first ≡ Nothing → FindsHighest set d found → Pivots set preferred d found
   chooses-other none-preferred finds = taken-other set preferred both row shared before none-preferred finds

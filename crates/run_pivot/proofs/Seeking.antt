@@ -22,7 +22,7 @@ use Rattle.run_table.specs.Lists.{both, RowHeld}
 use Rattle.run_table.proofs.Columns.{column-first}
 use Rattle.run_table.proofs.Lists.{first-good}
 use Rattle.run_pivot.specs.declared.Found.the-variants.{At, Nothing}
-use Rattle.run_pivot.specs.Contract.{Finds}
+use Rattle.run_pivot.specs.Contract.{FindsHighest}
 
 -- In the search, going down: the columns of the set from `end` on are 0, and the last before it is in the set.
 pub record Seeking (set end : ℕ) (nums dens : List ℤ) : Type 0 where
@@ -47,7 +47,7 @@ module _ {set : ℕ} {nums dens : List ℤ} (held : RowHeld 0 (both nums dens)) 
     good = let most = seeking .most in first-good held read (omega arith)
 
     -- It is not 0: it is found.
-    pub seeking-finds : (ofZ w32 (f .num) ≡ ofZ w32 (pos 0) → ⊥) → Finds set (both nums dens) (At (end - 1))
+    pub seeking-finds : (ofZ w32 (f .num) ≡ ofZ w32 (pos 0) → ⊥) → FindsHighest set (both nums dens) (At (end - 1))
     seeking-finds other =
         let most = seeking .most in
         record {
@@ -74,7 +74,7 @@ module _ {set : ℕ} {nums dens : List ℤ} (held : RowHeld 0 (both nums dens)) 
         by c above below inside none-there (no behind) (no other) = seeking .zeros c (omega arith) below inside
 
   -- No column is left: all are 0.
-  pub seeking-ends : {end : ℕ} → Seeking set end nums dens → end ≤ 0 → Finds set (both nums dens) Nothing
+  pub seeking-ends : {end : ℕ} → Seeking set end nums dens → end ≤ 0 → FindsHighest set (both nums dens) Nothing
   seeking-ends seeking none-left =
       record {
         highest = λ p at. let never : _≡_ {A = ℕ} 0 1 = cc in absurd (omega arith);

@@ -1,6 +1,6 @@
 -- What the search for the unknown to solve ensures. (It asks for a difference that stands in two lists of its own, without a column outside
 -- the set: `RowWithin` of `run_table`.)
--- Main definitions: `preferring`, `pivoted`, `Highest`, `Finds`, `Pivots`. Assume nothing.
+-- Main definitions: `preferring`, `pivoted`, `Highest`, `FindsHighest`, `Pivots`. Assume nothing.
 use mathlib.Core.Path.{_≡_}
 use mathlib.Core.Logic.{_≢_}
 use mathlib.Core.Bool.{true, cond}
@@ -30,7 +30,7 @@ pub record Highest (set : ℕ) (d : Lists) (p : ℕ) : Type 0 where
   pub zero-above : (c : ℕ) → p < c → c < TERMS → holds set c ≡ true → column (rowIn d 0) c ≡ zeroℚ
 
 -- The column found is the highest of the set that is not 0, or all of the set are 0.
-pub record Finds (set : ℕ) (d : Lists) (found : Found) : Type 0 where
+pub record FindsHighest (set : ℕ) (d : Lists) (found : Found) : Type 0 where
   pub highest : (p : ℕ) → found ≡ At p → Highest set d p
   pub zeros : found ≡ Nothing → (c : ℕ) → c < TERMS → holds set c ≡ true → column (rowIn d 0) c ≡ zeroℚ
 

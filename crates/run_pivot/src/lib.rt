@@ -1,7 +1,7 @@
 // The unknown that a difference solves. The search goes only through the columns of a set, outside of which the difference holds 0.
 use rules_problem::TERMS;
 ghost use Rattle.run_table.specs.Lists.{lists, atEntry, RowHeld, RowWithin};
-ghost use Rattle.run_pivot.specs.Contract.{Finds, Pivots};
+ghost use Rattle.run_pivot.specs.Contract.{FindsHighest, Pivots};
 
 // The unknown that a difference solves, by its column; nothing where no unknown is left in it.
 pub enum Found {
@@ -12,7 +12,7 @@ pub enum Found {
 // The highest column of the set in which the difference holds something else than 0: the first that is met going down.
 fn highest(d_nums: &[i32], d_dens: &[i32], set: u64) -> Found
     requires { ⌜ RowHeld 0 (lists «d_nums» «d_dens») ⌝ }
-    ensures { λ r. ⌜ Finds set (atEntry «d_nums» «d_dens») r ⌝ }
+    ensures { λ r. ⌜ FindsHighest set (atEntry «d_nums» «d_dens») r ⌝ }
 {
     let mut end = set_extremes::last(set, TERMS);
     while 0 < end {

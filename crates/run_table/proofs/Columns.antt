@@ -13,24 +13,24 @@ use Rattle.fraction.specs.Exact.{value, zeroℚ}
 use Rattle.fraction_reduce.specs.Values.{Good}
 use Rattle.fraction_reduce.proofs.Tests.{zero-stands}
 use Rattle.rules_run.specs.Row.{COLUMNS, column, rowOf}
-use Rattle.run_table.specs.Held.{heldAt, listed, rowAt, tableAt, SoundTo}
+use Rattle.run_table.specs.Held.{heldAt, listedFrom, rowAt, tableAt, SoundTo}
 use Rattle.run_table.specs.Loop.{Kept}
 
-pub listed-length {ℓ} : {A : Type ℓ} (g : ℕ → A) (count from : ℕ) → length (listed count from g) ≡ count
-unfolding listed
+pub listed-length {ℓ} : {A : Type ℓ} (g : ℕ → A) (count from : ℕ) → length (listedFrom count from g) ≡ count
+unfolding listedFrom
 listed-length g zero from = refl
 listed-length g (suc count) from = ap suc (listed-length g count (suc from))
 
 -- Each member of a list is what g gives at its index.
-pub listed-member {ℓ} : {A : Type ℓ} (g : ℕ → A) (d : A) (count from i : ℕ) → i < count → getD (listed count from g) i d ≡ g (from + i)
-unfolding listed
+pub listed-member {ℓ} : {A : Type ℓ} (g : ℕ → A) (d : A) (count from i : ℕ) → i < count → getD (listedFrom count from g) i d ≡ g (from + i)
+unfolding listedFrom
 listed-member g d zero from i below = absurd (omega arith)
 listed-member g d (suc count) from zero below = rw add-zero
 listed-member g d (suc count) from (suc i) below = rw (add-suc, ← suc-add) (listed-member g d count (suc from) i (omega arith))
 
 -- Lists with the same members are the same.
-pub listed-same {ℓ} : {A : Type ℓ} (g h : ℕ → A) (count from : ℕ) → ((i : ℕ) → i < count → g (from + i) ≡ h (from + i)) → listed count from g ≡ listed count from h
-unfolding listed
+pub listed-same {ℓ} : {A : Type ℓ} (g h : ℕ → A) (count from : ℕ) → ((i : ℕ) → i < count → g (from + i) ≡ h (from + i)) → listedFrom count from g ≡ listedFrom count from h
+unfolding listedFrom
 listed-same g h zero from all = refl
 listed-same g h (suc count) from all =
     ap₂ _∷_ (rw add-zero at (all 0 (omega arith))) (listed-same g h count (suc from) (λ i below. rw (suc-add, ← add-suc) (all (suc i) (omega arith))))

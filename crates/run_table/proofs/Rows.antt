@@ -17,12 +17,12 @@ use Rattle.fraction.proofs.Making.{tab-stopped}
 use Rattle.fraction_reduce.specs.Values.{Good}
 use Rattle.rules_run.specs.Row.{COLUMNS, row}
 use Rattle.run_table.specs.declared.Step.the-variants.{Done, Refused}
-use Rattle.run_table.specs.Held.{heldAt, listed, rowAt, SoundTo, stepped}
+use Rattle.run_table.specs.Held.{heldAt, listedFrom, rowAt, SoundTo, stepped}
 use Rattle.run_table.specs.Loop.{Making, RowMade}
 
 -- A list each of whose members is made is made of them.
-pub tab-listed {ℓ} : {R : Type 0} {A : Type ℓ} (g : ℕ → Made R A) (f : ℕ → A) (count from : ℕ) → ((i : ℕ) → i < count → g (from + i) ≡ made (f (from + i))) → tab count from g ≡ made (listed count from f)
-unfolding tab listed _>>=_
+pub tab-listed {ℓ} : {R : Type 0} {A : Type ℓ} (g : ℕ → Made R A) (f : ℕ → A) (count from : ℕ) → ((i : ℕ) → i < count → g (from + i) ≡ made (f (from + i))) → tab count from g ≡ made (listedFrom count from f)
+unfolding tab listedFrom _>>=_
 tab-listed g f zero from all = refl
 tab-listed g f (suc count) from all =
     let here : g from ≡ made (f from) = rw add-zero at (all 0 (omega arith)) in

@@ -17,17 +17,17 @@ abbrev pub heldAt : (nums dens : List ℤ) → (k : ℕ) → Fraction
 heldAt nums dens k = record { num = getD nums k (pos 0); den = getD dens k (pos 0) }
 
 -- what g gives for each of `count` numbers from `from` upward
-unfoldable pub listed {ℓ} : {A : Type ℓ} → (count from : ℕ) → (ℕ → A) → List A
-listed zero from g = []
-listed (suc count) from g = g from ∷ listed count (suc from) g
+unfoldable pub listedFrom {ℓ} : {A : Type ℓ} → (count from : ℕ) → (ℕ → A) → List A
+listedFrom zero from g = []
+listedFrom (suc count) from g = g from ∷ listedFrom count (suc from) g
 
 -- the row whose column 0 stands at place `base`
 unfoldable pub rowAt : (nums dens : List ℤ) → (base : ℕ) → Row
-rowAt nums dens base = listed COLUMNS 0 (λ c. value (heldAt nums dens (base + c)))
+rowAt nums dens base = listedFrom COLUMNS 0 (λ c. value (heldAt nums dens (base + c)))
 
 -- the rows of the terms below n: row t, column c stands at 65t + c
 unfoldable pub tableAt : (n : ℕ) → (nums dens : List ℤ) → Table
-tableAt n nums dens = listed n 0 (λ t. rowAt nums dens (COLUMNS * t))
+tableAt n nums dens = listedFrom n 0 (λ t. rowAt nums dens (COLUMNS * t))
 
 -- each place below m holds a fraction in lowest terms within the limits
 pub record SoundTo (m : ℕ) (nums dens : List ℤ) : Type 0 where

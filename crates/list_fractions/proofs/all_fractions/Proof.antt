@@ -6,12 +6,12 @@ use mir.Syntax.{w32}
 use borrow.Author.Needs.{needs}
 use Rattle.whole.proofs.Words.{kept}
 use Rattle.rules_run.specs.Row.{COLUMNS}
-use Rattle.list_fractions.proofs.Tested.{Tested, tested-none, tested-fails, tested-more, tested-end}
+use Rattle.list_fractions.proofs.Tested.{PlacesTested, tested-none, tested-fails, tested-more, tested-end}
 use Rattle.list_fractions.proofs.all_fractions.Statement.{statement}
 use Rattle.list_fractions.proofs.all_fractions.Tie as tie
 
 abbrev Inv-loop : tie.InvT-loop
-Inv-loop nums dens t first c₀ c = Tested t nums dens c
+Inv-loop nums dens t first c₀ c = PlacesTested t nums dens c
 
 abbrev μ-loop : tie.MeasureT-loop
 μ-loop nums dens t first c₀ c = COLUMNS - c

@@ -5,7 +5,7 @@ use mathlib.Core.List.{_∷_, []}
 use borrow.Author.Tests.{eq-eqb, ne-eqb}
 use lib.Dec.{eqb}
 use Rattle.rules_problem.specs.Record.{every}
-use Rattle.record_term.specs.Terms.{zeros}
+use Rattle.record_term.specs.Terms.{allZeros}
 use Rattle.record_term.proofs.Judging.{and-came, zerosFrom, zeros-from}
 use Rattle.record_term.proofs.all_zero.Statement.{statement}
 use Rattle.record_term.proofs.all_zero.Tie as tie
@@ -46,8 +46,8 @@ tested c =
 -- all of them
 all-tested : (c : tie.Joined5) →
     let a = begun (first c) .args in
-    (c .if5 .if6 && eqb (a .padding) 0) ≡ zeros (a .symbol ∷ a .input1 ∷ a .input2 ∷ a .input3 ∷ a .mantissa ∷ a .shift ∷ a .padding ∷ [])
-unfolding zerosFrom zeros every
+    (c .if5 .if6 && eqb (a .padding) 0) ≡ allZeros (a .symbol ∷ a .input1 ∷ a .input2 ∷ a .input3 ∷ a .mantissa ∷ a .shift ∷ a .padding ∷ [])
+unfolding zerosFrom allZeros every
 all-tested c =
     let a = begun (first c) .args in
     ap (λ b. b && eqb (a .padding) 0) (tested c) ∙ sym (zeros-from (eqb (a .symbol) 0) (a .input1 ∷ a .input2 ∷ a .input3 ∷ a .mantissa ∷ a .shift ∷ a .padding ∷ []))

@@ -4,8 +4,8 @@ use native.Mathlib.Omega.{arith}
 use Prim.Native.Nat.{_+_, _-_, _≤_}
 use Rattle.run_table.specs.Work.{lent}
 use Rattle.rules_problem.proofs.Holding.{holding}
-use Rattle.run_assume.specs.Contract.{leftBy}
-use Rattle.run_assume.proofs.All.{Assuming, Turned, assuming-starts, sides-below, assuming-ends, assuming-turned}
+use Rattle.run_assume.specs.Contract.{assumedBy}
+use Rattle.run_assume.proofs.All.{Assuming, AssumedOne, assuming-starts, sides-below, assuming-ends, assuming-turned}
 use Rattle.run_assume.proofs.assume_all.Statement.{statement}
 use Rattle.run_assume.proofs.assume_all.Tie as tie
 
@@ -52,7 +52,7 @@ assume-one-requires c κs =
 turned : (o : Assumed) →
     let h : Head = search in
     let s : Start = search in
-    Turned (s .args .bytes .now) (s .args .n) (s .args .m) (s .args .solved) (s .args .heads .now) (s .args .inputs .now) (lent (s .args .nums) (s .args .dens) (s .args .sets)) (h .loop .k + 1) (leftBy (o .assume-one .ensures)) (o .assume-one .result)
+    AssumedOne (s .args .bytes .now) (s .args .n) (s .args .m) (s .args .solved) (s .args .heads .now) (s .args .inputs .now) (lent (s .args .nums) (s .args .dens) (s .args .sets)) (h .loop .k + 1) (assumedBy (o .assume-one .ensures)) (o .assume-one .result)
 turned o =
     let p : tie.After-pair-at Inv-loop μ-loop = search in
     let turn : tie.In-loop Inv-loop μ-loop = search in

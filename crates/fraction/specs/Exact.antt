@@ -1,12 +1,11 @@
 -- Exact fractions in lowest terms, and the operations on them.
--- Main definitions: `ℚ`, `frac`, `worth`, `value`, `_+ℚ_`, `_-ℚ_`, `_*ℚ_`, `_÷ℚ_`, `eqℚ`. Assumes nothing.
+-- Main definitions: `ℚ`, `frac`, `worth`, `_+ℚ_`, `_-ℚ_`, `_*ℚ_`, `_÷ℚ_`, `eqℚ`. Assumes nothing.
 use mathlib.Core.Path.{_≡_, ap, _∙_}
 use mathlib.Core.Bool.{Bool, false, _&&_}
 use Prim.Native.Nat.{ℕ, zero, suc, _*_, _/_, _^_, _<_}
 use native.Mathlib.Nat.{zero-lt-suc}
 use lib.IntN.{ℤ, pos, negsuc, negℤ, natAbs, _+ℤ_, _*ℤ_}
 use lib.Dec.{eqb}
-use Rattle.fraction.specs.declared.Fraction.{Fraction}
 use Rattle.fraction.specs.declared.Scaled.{Scaled}
 use Rattle.whole.specs.Gcd.{gcd}
 use Rattle.whole.specs.Signed.{signed}
@@ -46,10 +45,6 @@ frac n (suc d) =
 -- 01, The problem record: "mantissa / 2^shift"
 unfoldable pub worth : Scaled → ℚ
 worth s = frac (s .mantissa) (2 ^ s .shift)
-
--- what a fraction struct stands for: numerator over denominator, in lowest terms
-unfoldable pub value : Fraction → ℚ
-value f = frac (f .num) (natAbs (f .den))
 
 infixl 70 _+ℚ_ _-ℚ_
 infixl 71 _*ℚ_ _÷ℚ_

@@ -4,8 +4,8 @@ use fraction_reduce::reduce::made;
 use whole_signed::opposite;
 use whole_signed::wide;
 use whole_size::size;
-ghost use Rattle.fraction.specs.Exact.{negℚ, inverse, value};
-ghost use Rattle.fraction_reduce.specs.Values.{Good, Stands};
+ghost use Rattle.fraction.specs.Exact.{negℚ, inverse};
+ghost use Rattle.fraction_reduce.specs.Values.{value, Good, Stands};
 
 // The limits are the same on both sides of zero, so the opposite is within them too.
 pub fn negated(a: Fraction) -> Fraction

@@ -9,11 +9,11 @@ use mir.Syntax.{w32, w64}
 use mir.Val.{toZ, ofZ}
 use Rattle.whole.proofs.Words.{kept}
 use Rattle.whole_signed.specs.Contract.{Product}
-use Rattle.fraction.specs.Exact.{frac, negℚ, value}
+use Rattle.fraction.specs.Exact.{frac, negℚ}
 use Rattle.fraction.specs.Limits.{tested, times}
 use Rattle.fraction.specs.declared.Fraction.{Fraction}
 use Rattle.fraction_reduce.specs.Contract.{Bottoms}
-use Rattle.fraction_reduce.specs.Values.{Good, Stands, Answers}
+use Rattle.fraction_reduce.specs.Values.{value, Good, Stands, Answers}
 use Rattle.fraction_reduce.specs.declared.Tested.{Tested}
 use Rattle.fraction_reduce.specs.declared.Tested.the-variants.{Fits}
 use Rattle.fraction_reduce.proofs.Operations.{good-num, good-den, times-is}

@@ -4,9 +4,8 @@ use fraction_inverse::negated;
 use fraction_reduce::Tested;
 use fraction_reduce::bottoms;
 use fraction_reduce::reduce::reduced;
-ghost use Rattle.fraction.specs.Exact.{value};
 ghost use Rattle.fraction.specs.Limits.{times};
-ghost use Rattle.fraction_reduce.specs.Values.{Good, Answers};
+ghost use Rattle.fraction_reduce.specs.Values.{value, Good, Answers};
 ghost use Rattle.fraction_product.specs.Contract.{WholeFactor};
 
 // Any two factors.

@@ -3,9 +3,9 @@
 use mathlib.Core.Path.{_≡_, sym, ap, _∙_, subst}
 use Prim.Native.Nat.{ℕ}
 use Rattle.fraction.specs.declared.Fraction.{Fraction}
-use Rattle.fraction.specs.Exact.{ℚ, value}
+use Rattle.fraction.specs.Exact.{ℚ}
 use Rattle.fraction.specs.Made as rule
-use Rattle.fraction_reduce.specs.Values.{Good, says, FitsGood, Answers}
+use Rattle.fraction_reduce.specs.Values.{value, Good, says, FitsGood, Answers}
 use Rattle.fraction_reduce.specs.declared.Tested.{Tested}
 use Rattle.fraction_reduce.specs.declared.Tested.the-variants.{Fits, Refused}
 

@@ -11,9 +11,9 @@ use Rattle.whole.specs.Gcd.{gcd}
 use Rattle.whole.specs.Signed.{signed}
 use Rattle.whole.proofs.Sizes.{size-signed, signed-size}
 use Rattle.whole.proofs.Steps.{gcd-stops, gcd-step}
-use Rattle.fraction.specs.Exact.{ℚ, frac, value}
+use Rattle.fraction.specs.Exact.{ℚ, frac}
 use Rattle.fraction.specs.declared.Fraction.{Fraction}
-use Rattle.fraction_reduce.specs.Values.{Good}
+use Rattle.fraction_reduce.specs.Values.{value, Good}
 
 -- Exact fractions with the same two numbers are the same.
 pub ℚ-same : {p q : ℚ} → p .num ≡ q .num → p .den ≡ q .den → p ≡ q

@@ -11,10 +11,10 @@ use Rattle.whole.specs.Gcd.{gcd}
 use Rattle.whole.specs.Signed.{signed}
 use Rattle.whole.proofs.Lowest.{gcd-symmetric}
 use Rattle.whole.proofs.Sizes.{size-negated, size-product, size-signed, size-zero}
-use Rattle.fraction.specs.Exact.{frac, whole, zeroℚ, negℚ, inverse, _+ℚ_, _*ℚ_, value}
+use Rattle.fraction.specs.Exact.{frac, whole, zeroℚ, negℚ, inverse, _+ℚ_, _*ℚ_}
 use Rattle.fraction.specs.Limits.{limit, tested, plus, times}
 use Rattle.fraction.specs.declared.Fraction.{Fraction}
-use Rattle.fraction_reduce.specs.Values.{Good, Stands}
+use Rattle.fraction_reduce.specs.Values.{value, Good, Stands}
 use Rattle.fraction_reduce.proofs.Linked.{stands}
 use Rattle.fraction_reduce.proofs.Lowest.{frac-num, frac-den, frac-size, lowest-num, lowest-den, value-num, value-den, zero-den}
 use Rattle.whole.proofs.Words.{fits-size}

@@ -12,10 +12,10 @@ use mir.Syntax.{w32}
 use mir.Val.{SFits, toZ, ofZ}
 use Rattle.whole.specs.Gcd.{gcd}
 use Rattle.whole.specs.Signed.{signed}
-use Rattle.fraction.specs.Exact.{ℚ, frac, negℚ, _+ℚ_, _*ℚ_, value}
+use Rattle.fraction.specs.Exact.{ℚ, frac, negℚ, _+ℚ_, _*ℚ_}
 use Rattle.fraction.specs.Limits.{limit, tested, plus, times}
 use Rattle.fraction.specs.declared.Fraction.{Fraction}
-use Rattle.fraction_reduce.specs.Values.{Good, Stands, Answers}
+use Rattle.fraction_reduce.specs.Values.{value, Good, Stands, Answers}
 use Rattle.fraction_reduce.specs.declared.Tested.the-variants.{Fits}
 use Rattle.fraction_reduce.proofs.Linked.{answers-fits}
 use Rattle.fraction_reduce.proofs.Lowest.{gcd-nothing, frac-num, frac-den, lowest-num, lowest-den, value-num, value-den, zero-den}

@@ -7,13 +7,13 @@ use lib.IntN.{pos, natAbs}
 use mir.Syntax.{w32}
 use mir.Val.{ofZ}
 use Rattle.fraction.specs.declared.Fraction.{Fraction}
-use Rattle.fraction.specs.Exact.{ℚ, value, whole, zeroℚ, eqℚ}
+use Rattle.fraction.specs.Exact.{ℚ, whole, zeroℚ, eqℚ}
 use Rattle.fraction.specs.Limits.{limit, tested}
 use Rattle.fraction.specs.Made.{made}
 use Rattle.fraction.proofs.Bounded as bounded
 use Rattle.fraction.proofs.Equality.{ℚ-discrete, eqℚ-same, eqℚ-yes}
 use Rattle.fraction.proofs.Field.{size-positive}
-use Rattle.fraction_reduce.specs.Values.{Good, Stands}
+use Rattle.fraction_reduce.specs.Values.{value, Good, Stands}
 use Rattle.fraction_reduce.proofs.Linked.{stands}
 use Rattle.fraction_reduce.proofs.Lowest.{value-num, value-den}
 use Rattle.fraction_reduce.proofs.Operations.{good-num}

@@ -7,11 +7,11 @@ use lib.Signed.{mag}
 use mir.Syntax.{w32, w64}
 use mir.Val.{toZ, ofZ}
 use Rattle.whole.proofs.Words.{kept}
-use Rattle.fraction.specs.Exact.{frac, value}
+use Rattle.fraction.specs.Exact.{frac}
 use Rattle.fraction.specs.Limits.{tested, plus}
 use Rattle.fraction.specs.declared.Fraction.{Fraction}
 use Rattle.fraction_reduce.specs.Contract.{Bottoms}
-use Rattle.fraction_reduce.specs.Values.{Good, Answers}
+use Rattle.fraction_reduce.specs.Values.{value, Good, Answers}
 use Rattle.fraction_reduce.specs.declared.Tested.{Tested}
 use Rattle.fraction_reduce.specs.declared.Tested.the-variants.{Fits}
 use Rattle.fraction_reduce.proofs.Operations.{good-num, plus-is}

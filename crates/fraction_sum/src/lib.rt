@@ -5,9 +5,8 @@ use fraction_reduce::Tested;
 use fraction_reduce::bottoms;
 use fraction_reduce::reduce::reduced;
 use whole_signed::times;
-ghost use Rattle.fraction.specs.Exact.{value};
 ghost use Rattle.fraction.specs.Limits.{plus, minus};
-ghost use Rattle.fraction_reduce.specs.Values.{Good, Answers};
+ghost use Rattle.fraction_reduce.specs.Values.{value, Good, Answers};
 ghost use Rattle.fraction_sum.specs.Contract.{Cross};
 
 // The numerator of a sum, over the product of the denominators.

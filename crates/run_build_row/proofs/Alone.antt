@@ -16,7 +16,8 @@ use lib.IntN.{ℤ, pos}
 use Rattle.set_members.specs.Sets.{holds}
 use Rattle.fraction.specs.declared.Fraction.{Fraction}
 use Rattle.fraction.specs.declared.Scaled.{Scaled}
-use Rattle.fraction.specs.Exact.{ℚ, worth, value, zeroℚ, oneℚ}
+use Rattle.fraction.specs.Exact.{ℚ, worth, zeroℚ, oneℚ}
+use Rattle.fraction_reduce.specs.Values.{value}
 use Rattle.fraction.specs.Made.{Made, made}
 use Rattle.fraction.proofs.Field.{one-not-zero}
 use Rattle.fraction_reduce.proofs.Tests.{zero-stands}

@@ -6,9 +6,9 @@ use Prim.Native.Nat.{ℕ, _+_, _*_, _<_}
 use native.Mathlib.Omega.{arith}
 use lib.IntN.{ℤ, pos}
 use Rattle.fraction.specs.declared.Fraction.{Fraction}
-use Rattle.fraction.specs.Exact.{value, whole, oneℚ}
+use Rattle.fraction.specs.Exact.{whole, oneℚ}
 use Rattle.fraction.specs.Limits.{limit}
-use Rattle.fraction_reduce.specs.Values.{Good, Stands}
+use Rattle.fraction_reduce.specs.Values.{value, Good, Stands}
 use Rattle.fraction_reduce.proofs.Linked.{stands}
 use Rattle.rules_run.specs.Row.{COLUMNS, column, cell}
 use Rattle.run_table.specs.Held.{heldAt, tableAt, SoundTo}

@@ -5,10 +5,10 @@ use Prim.Native.Nat.{ℕ, _<_}
 use native.Mathlib.Omega.{arith}
 use Rattle.fraction.specs.declared.Fraction.{Fraction}
 use Rattle.fraction.specs.declared.Scaled.{Scaled}
-use Rattle.fraction.specs.Exact.{worth, value}
+use Rattle.fraction.specs.Exact.{worth}
 use Rattle.fraction.specs.Limits.{plus, minus, times}
 use Rattle.fraction_reduce.specs.declared.Tested.{Tested}
-use Rattle.fraction_reduce.specs.Values.{Good, Stands, Answers}
+use Rattle.fraction_reduce.specs.Values.{value, Good, Stands, Answers}
 use Rattle.rules_problem.specs.declared.Kind.{Kind}
 use Rattle.rules_problem.specs.declared.Kind.the-variants.{Gain, Sum, Difference}
 use Rattle.rules_run.specs.Row.{cell}

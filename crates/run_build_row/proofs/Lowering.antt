@@ -8,8 +8,8 @@ use denote.Enum.Declared.{tagOf}
 use types.Run.{OneOf, miss}
 use Rattle.fraction.specs.declared.Fraction.{Fraction}
 use Rattle.fraction.specs.declared.Scaled.{Scaled}
-use Rattle.fraction.specs.Exact.{worth, value}
-use Rattle.fraction_reduce.specs.Values.{Stands}
+use Rattle.fraction.specs.Exact.{worth}
+use Rattle.fraction_reduce.specs.Values.{value, Stands}
 use Rattle.fraction_reduce.proofs.Tests.{zero-stands}
 use Rattle.rules_problem.specs.declared.Kind.{Kind}
 use Rattle.rules_problem.specs.declared.Kind.the-variants.{Variable, Constant, Gain, Sum, Difference, Lookup1, Lookup2, Lookup3}

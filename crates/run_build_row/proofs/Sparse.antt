@@ -13,11 +13,11 @@ use lib.ListN.{getD, set, length}
 use lib.Seq.{getD-set-same, getD-set-other}
 use lib.IntN.{ℤ, pos}
 use Rattle.set_members.specs.Sets.{holds}
-use Rattle.fraction.specs.Exact.{ℚ, worth, value, zeroℚ, _+ℚ_, _-ℚ_, _*ℚ_}
+use Rattle.fraction.specs.Exact.{ℚ, worth, zeroℚ, _+ℚ_, _-ℚ_, _*ℚ_}
 use Rattle.fraction.specs.Limits.{tested, plus, minus, times}
 use Rattle.fraction.specs.Made.{Made, made}
 use Rattle.fraction.proofs.Field.{plus-zero, plus-inverse, times-zero, minus-is-plus}
-use Rattle.fraction_reduce.specs.Values.{Good}
+use Rattle.fraction_reduce.specs.Values.{value, Good}
 use Rattle.fraction_reduce.proofs.Tests.{zero-stands, zero-passes}
 use Rattle.rules_problem.specs.declared.Kind.{Kind}
 use Rattle.rules_problem.specs.declared.Kind.the-variants.{Variable, Constant, Gain, Sum, Difference, Lookup1, Lookup2, Lookup3}

@@ -4,9 +4,9 @@ use mathlib.Core.Path.{_≡_}
 use Prim.Native.Nat.{ℕ, _<_}
 use Rattle.fraction.specs.declared.Fraction.{Fraction}
 use Rattle.fraction.specs.declared.Scaled.{Scaled}
-use Rattle.fraction.specs.Exact.{worth, value}
+use Rattle.fraction.specs.Exact.{worth}
 use Rattle.fraction.specs.InRecord.{InRecord}
-use Rattle.fraction_reduce.specs.Values.{Good}
+use Rattle.fraction_reduce.specs.Values.{value, Good}
 use Rattle.rules_problem.specs.declared.Kind.{Kind}
 use Rattle.rules_problem.specs.declared.Kind.the-variants.{Variable, Constant, Gain, Sum, Difference, Lookup1, Lookup2, Lookup3}
 

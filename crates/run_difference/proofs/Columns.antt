@@ -10,11 +10,11 @@ use lib.IntN.{ℤ}
 use Rattle.set_members.proofs.Digits.{holds-none}
 use Rattle.set_extremes.specs.Extremes.{Next, Rest}
 use Rattle.fraction.specs.declared.Fraction.{Fraction}
-use Rattle.fraction.specs.Exact.{value, zeroℚ}
+use Rattle.fraction.specs.Exact.{zeroℚ}
 use Rattle.fraction.specs.Limits.{tested, minus}
 use Rattle.fraction.specs.Made.{made}
 use Rattle.fraction.proofs.Field.{minus-is-plus, plus-inverse}
-use Rattle.fraction_reduce.specs.Values.{Answers}
+use Rattle.fraction_reduce.specs.Values.{value, Answers}
 use Rattle.fraction_reduce.specs.declared.Tested.{Tested}
 use Rattle.fraction_reduce.specs.declared.Tested.the-variants.{Fits, Refused}
 use Rattle.fraction_reduce.proofs.Tests.{zero-passes}

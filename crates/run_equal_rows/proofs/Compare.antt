@@ -12,8 +12,8 @@ use lib.ListN.{getD}
 use Rattle.set_members.specs.Sets.{holds}
 use Rattle.set_extremes.specs.Extremes.{Last}
 use Rattle.fraction.specs.declared.Fraction.{Fraction}
-use Rattle.fraction.specs.Exact.{value, eqℚ}
-use Rattle.fraction_reduce.specs.Values.{Good}
+use Rattle.fraction.specs.Exact.{eqℚ}
+use Rattle.fraction_reduce.specs.Values.{value, Good}
 use Rattle.rules_run.specs.Row.{TERMS, COLUMNS, sameTo, sameRow}
 use Rattle.run_table.specs.Held.{heldAt, rowAt, tableAt}
 use Rattle.run_table.specs.Sets.{columnsOf}

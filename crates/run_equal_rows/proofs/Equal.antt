@@ -12,7 +12,8 @@ use mir.Syntax.{w32}
 use mir.Val.{SFits, toZ, ofZ}
 use mir.Facts.{toZ-ofZ}
 use Rattle.fraction.specs.declared.Fraction.{Fraction}
-use Rattle.fraction.specs.Exact.{value, eqℚ}
+use Rattle.fraction.specs.Exact.{eqℚ}
+use Rattle.fraction_reduce.specs.Values.{value}
 use Rattle.fraction.proofs.Equality.{eqℚ-yes, eqℚ-same}
 use Rattle.fraction_reduce.proofs.Lowest.{value-one-to-one}
 use Rattle.fraction_reduce.proofs.Operations.{good-num, good-den}

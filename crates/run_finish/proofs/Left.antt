@@ -12,7 +12,8 @@ use lib.ListN.{getD, List·getD-eq-default}
 use lib.IntN.{ℤ, pos}
 use Rattle.answer.specs.declared.Answer.{Answer}
 use Rattle.answer.specs.declared.Answer.the-variants.{Entailed, NotEntailed}
-use Rattle.fraction.specs.Exact.{whole, zeroℚ, value}
+use Rattle.fraction.specs.Exact.{whole, zeroℚ}
+use Rattle.fraction_reduce.specs.Values.{value}
 use Rattle.fraction_reduce.proofs.Lowest.{value-num, value-den}
 use Rattle.rules_run.specs.Row.{COLUMNS, PLACES, column, rowOf, cell, sameRow}
 use Rattle.rules_run.specs.Run.{judged}

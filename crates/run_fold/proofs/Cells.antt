@@ -8,11 +8,11 @@ use lib.IntN.{pos}
 use mir.Syntax.{w32}
 use mir.Val.{ofZ}
 use Rattle.fraction.specs.declared.Fraction.{Fraction}
-use Rattle.fraction.specs.Exact.{ℚ, value, zeroℚ, _*ℚ_}
+use Rattle.fraction.specs.Exact.{ℚ, zeroℚ, _*ℚ_}
 use Rattle.fraction.specs.Limits.{tested, plus, times}
 use Rattle.fraction.specs.Made.{made, stopped, _>>=_}
 use Rattle.fraction.proofs.Field as field
-use Rattle.fraction_reduce.specs.Values.{Good, Answers, says, FitsGood}
+use Rattle.fraction_reduce.specs.Values.{value, Good, Answers, says, FitsGood}
 use Rattle.fraction_reduce.specs.declared.Tested.{Tested}
 use Rattle.fraction_reduce.specs.declared.Tested.the-variants.{Fits, Refused}
 use Rattle.fraction_reduce.proofs.Answered.{fits-made, refused-stopped}

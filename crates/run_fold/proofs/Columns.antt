@@ -11,7 +11,8 @@ use lib.IntN.{ℤ, pos}
 use lib.ListN.{set as stored-at}
 use Rattle.set_members.specs.Sets.{holds}
 use Rattle.fraction.specs.declared.Fraction.{Fraction}
-use Rattle.fraction.specs.Exact.{value, zeroℚ}
+use Rattle.fraction.specs.Exact.{zeroℚ}
+use Rattle.fraction_reduce.specs.Values.{value}
 use Rattle.fraction.specs.Made.{made}
 use Rattle.fraction_reduce.proofs.Tests.{zero-stands}
 use Rattle.rules_run.specs.Row.{TERMS, COLUMNS, column}

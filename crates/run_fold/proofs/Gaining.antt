@@ -10,8 +10,7 @@ use mir.Syntax.{w32}
 use mir.Val.{ofZ}
 use Rattle.set_extremes.specs.Extremes.{Next, Rest}
 use Rattle.fraction.specs.declared.Fraction.{Fraction}
-use Rattle.fraction.specs.Exact.{value}
-use Rattle.fraction_reduce.specs.Values.{Good, Answers}
+use Rattle.fraction_reduce.specs.Values.{value, Good, Answers}
 use Rattle.fraction_reduce.specs.declared.Tested.{Tested}
 use Rattle.fraction_reduce.specs.declared.Tested.the-variants.{Fits, Refused}
 use Rattle.fraction_reduce.proofs.Tests.{zero-value}

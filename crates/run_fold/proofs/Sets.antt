@@ -15,10 +15,10 @@ use lib.ListN.{length, getD, length-set, set as stored}
 use lib.Seq.{getD-set-same, getD-set-other}
 use Rattle.set_members.specs.Sets.{holds}
 use Rattle.fraction.specs.declared.Fraction.{Fraction}
-use Rattle.fraction.specs.Exact.{ℚ, value, whole, zeroℚ}
+use Rattle.fraction.specs.Exact.{ℚ, whole, zeroℚ}
 use Rattle.fraction.specs.Made.{Made, made}
 use Rattle.fraction.proofs.Making.{tab-member}
-use Rattle.fraction_reduce.specs.Values.{Good}
+use Rattle.fraction_reduce.specs.Values.{value, Good}
 use Rattle.fraction_reduce.proofs.Lowest.{value-num}
 use Rattle.rules_run.specs.Row.{TERMS, COLUMNS, column, row}
 use Rattle.run_table.specs.declared.Step.{Step}

@@ -13,7 +13,7 @@ use lib.ListN.{getD}
 use mir.Syntax.{w32}
 use mir.Val.{ofZ}
 use Rattle.fraction.specs.declared.Fraction.{Fraction}
-use Rattle.fraction.specs.Exact.{value}
+use Rattle.fraction_reduce.specs.Values.{value}
 use Rattle.fraction.specs.Made.{made, tab}
 use Rattle.fraction.proofs.Making.{tab-stopped}
 use Rattle.fraction_reduce.proofs.Tests.{zero-value}

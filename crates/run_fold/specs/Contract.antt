@@ -11,9 +11,9 @@ use lib.IntN.{ℤ, pos}
 use lib.ListN.{length, getD}
 use Rattle.set_members.specs.Sets.{holds}
 use Rattle.fraction.specs.declared.Fraction.{Fraction}
-use Rattle.fraction.specs.Exact.{ℚ, value}
+use Rattle.fraction.specs.Exact.{ℚ}
 use Rattle.fraction.specs.Made.{Made}
-use Rattle.fraction_reduce.specs.Values.{Good}
+use Rattle.fraction_reduce.specs.Values.{value, Good}
 use Rattle.rules_run.specs.Row.{TERMS, COLUMNS, PLACES}
 use Rattle.rules_run.specs.Merge.{foldedColumn, folded}
 use Rattle.run_table.specs.declared.Step.{Step}

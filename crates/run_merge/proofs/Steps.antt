@@ -14,10 +14,10 @@ use mir.Syntax.{w32}
 use mir.Val.{ofZ}
 use Rattle.set_members.specs.Sets.{holds}
 use Rattle.fraction.specs.declared.Fraction.{Fraction}
-use Rattle.fraction.specs.Exact.{value, zeroℚ, eqℚ}
+use Rattle.fraction.specs.Exact.{zeroℚ, eqℚ}
 use Rattle.fraction.specs.Limits.{minus}
 use Rattle.fraction.specs.Made.{_>>=_, because}
-use Rattle.fraction_reduce.specs.Values.{Good}
+use Rattle.fraction_reduce.specs.Values.{value, Good}
 use Rattle.fraction_reduce.proofs.Tests.{zero-tested, other-tested}
 use Rattle.rules_run.specs.Row.{TERMS, COLUMNS, constant, column, row, rowOf}
 use Rattle.rules_run.specs.Merge.{difference, pivot, solve, settle, merge}

@@ -12,9 +12,9 @@ use mir.Val.{ofZ}
 use Rattle.set_members.specs.Sets.{holds}
 use Rattle.set_extremes.specs.Extremes.{Last}
 use Rattle.fraction.specs.declared.Fraction.{Fraction}
-use Rattle.fraction.specs.Exact.{value, zeroℚ, eqℚ}
+use Rattle.fraction.specs.Exact.{zeroℚ, eqℚ}
 use Rattle.fraction.proofs.Equality.{eqℚ-yes, eqℚ-no}
-use Rattle.fraction_reduce.specs.Values.{Good}
+use Rattle.fraction_reduce.specs.Values.{value, Good}
 use Rattle.fraction_reduce.proofs.Tests.{zero-tested, other-tested}
 use Rattle.rules_run.specs.Row.{TERMS, column}
 use Rattle.run_table.specs.Held.{heldAt, rowAt}

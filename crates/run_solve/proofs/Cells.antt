@@ -9,11 +9,11 @@ use lib.IntN.{pos, negsuc}
 use mir.Syntax.{w32}
 use mir.Val.{ofZ}
 use Rattle.fraction.specs.declared.Fraction.{Fraction}
-use Rattle.fraction.specs.Exact.{ℚ, value, zeroℚ, negℚ, inverse}
+use Rattle.fraction.specs.Exact.{ℚ, zeroℚ, negℚ, inverse}
 use Rattle.fraction.specs.Limits.{tested, times, over}
 use Rattle.fraction.specs.Made.{made, _>>=_}
 use Rattle.fraction.proofs.Field.{times-zero}
-use Rattle.fraction_reduce.specs.Values.{Stands, Answers}
+use Rattle.fraction_reduce.specs.Values.{value, Stands, Answers}
 use Rattle.fraction_reduce.specs.declared.Tested.the-variants.{Fits}
 use Rattle.fraction_reduce.proofs.Divided.{divided-negated}
 use Rattle.fraction_reduce.proofs.Operations.{good-num, good-den}

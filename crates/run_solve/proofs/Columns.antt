@@ -9,9 +9,8 @@ use lib.IntN.{ℤ}
 use lib.ListN.{set as stored-at}
 use Rattle.set_extremes.specs.Extremes.{Next, Rest}
 use Rattle.fraction.specs.declared.Fraction.{Fraction}
-use Rattle.fraction.specs.Exact.{value}
 use Rattle.fraction.specs.Limits.{times}
-use Rattle.fraction_reduce.specs.Values.{Answers}
+use Rattle.fraction_reduce.specs.Values.{value, Answers}
 use Rattle.fraction_reduce.specs.declared.Tested.{Tested}
 use Rattle.fraction_reduce.specs.declared.Tested.the-variants.{Fits, Refused}
 use Rattle.rules_run.specs.Row.{COLUMNS}

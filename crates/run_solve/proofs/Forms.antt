@@ -13,10 +13,10 @@ use lib.IntN.{ℤ, pos}
 use lib.ListN.{getD, set as stored-at}
 use Rattle.set_members.specs.Sets.{holds}
 use Rattle.fraction.specs.declared.Fraction.{Fraction}
-use Rattle.fraction.specs.Exact.{value, negℚ, inverse}
+use Rattle.fraction.specs.Exact.{negℚ, inverse}
 use Rattle.fraction.specs.Limits.{times}
 use Rattle.fraction.specs.Made.{made}
-use Rattle.fraction_reduce.specs.Values.{Good, Stands}
+use Rattle.fraction_reduce.specs.Values.{value, Good, Stands}
 use Rattle.fraction_reduce.proofs.Tests.{zero-stands}
 use Rattle.rules_run.specs.Row.{TERMS, column}
 use Rattle.run_table.specs.declared.Step.{Step}

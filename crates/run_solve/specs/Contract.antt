@@ -2,9 +2,9 @@
 -- Main definitions: `Scalable`, `ScalableRow`, `scaledIn`, `ScalesRow`, `Formable`, `Forms`. Assume nothing.
 use Prim.Native.Nat.{ℕ}
 use Rattle.fraction.specs.declared.Fraction.{Fraction}
-use Rattle.fraction.specs.Exact.{ℚ, value}
+use Rattle.fraction.specs.Exact.{ℚ}
 use Rattle.fraction.specs.Made.{Made}
-use Rattle.fraction_reduce.specs.Values.{Good}
+use Rattle.fraction_reduce.specs.Values.{value, Good}
 use Rattle.rules_run.specs.Row.{COLUMNS}
 use Rattle.rules_run.specs.Merge.{solvedColumn}
 use Rattle.run_table.specs.declared.Step.{Step}

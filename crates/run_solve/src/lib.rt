@@ -4,9 +4,9 @@ use fraction::Fraction;
 use fraction_reduce::Tested;
 use rules_problem::COLUMNS;
 use run_table::Step;
-ghost use Rattle.fraction.specs.Exact.{negℚ, inverse, value};
+ghost use Rattle.fraction.specs.Exact.{negℚ, inverse};
 ghost use Rattle.fraction.specs.Limits.{times};
-ghost use Rattle.fraction_reduce.specs.Values.{Good, Stands, Answers};
+ghost use Rattle.fraction_reduce.specs.Values.{value, Good, Stands, Answers};
 ghost use Rattle.run_table.specs.Lists.{lists, atEntry, atExit};
 ghost use Rattle.run_solve.specs.Contract.{Scalable, ScalableRow, ScalesRow, Formable, Forms};
 

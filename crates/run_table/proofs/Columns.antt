@@ -9,8 +9,8 @@ use native.Mathlib.Decide.{decLt}
 use native.Mathlib.Omega.{arith}
 use lib.ListN.{length, getD, replicate, getD-replicate}
 use lib.IntN.{ℤ, pos}
-use Rattle.fraction.specs.Exact.{value, zeroℚ}
-use Rattle.fraction_reduce.specs.Values.{Good}
+use Rattle.fraction.specs.Exact.{zeroℚ}
+use Rattle.fraction_reduce.specs.Values.{value, Good}
 use Rattle.fraction_reduce.proofs.Tests.{zero-stands}
 use Rattle.rules_run.specs.Row.{COLUMNS, column, rowOf}
 use Rattle.run_table.specs.Held.{heldAt, listedFrom, rowAt, tableAt, SoundTo}

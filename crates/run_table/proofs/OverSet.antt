@@ -14,9 +14,9 @@ use Rattle.set_members.specs.Sets.{holds}
 use Rattle.set_extremes.specs.Extremes.{Next, Rest}
 use Rattle.set_extremes.proofs.Taken.{From, from-starts, from-first, from-rest}
 use Rattle.fraction.specs.declared.Fraction.{Fraction}
-use Rattle.fraction.specs.Exact.{ℚ, value}
+use Rattle.fraction.specs.Exact.{ℚ}
 use Rattle.fraction.specs.Made as rule
-use Rattle.fraction_reduce.specs.Values.{Good, Answers}
+use Rattle.fraction_reduce.specs.Values.{value, Good, Answers}
 use Rattle.fraction_reduce.specs.declared.Tested.{Tested}
 use Rattle.fraction_reduce.specs.declared.Tested.the-variants.{Fits, Refused}
 use Rattle.rules_run.specs.Row.{TERMS, COLUMNS}

@@ -16,9 +16,9 @@ use lib.ListN.{length, length-set, set as stored-at}
 use Rattle.set_members.specs.Sets.{holds}
 use Rattle.set_extremes.specs.Extremes.{Next}
 use Rattle.fraction.specs.declared.Fraction.{Fraction}
-use Rattle.fraction.specs.Exact.{ℚ, value, zeroℚ}
+use Rattle.fraction.specs.Exact.{ℚ, zeroℚ}
 use Rattle.fraction.specs.Made.{Made, made, _>>=_, tab}
-use Rattle.fraction_reduce.specs.Values.{Good}
+use Rattle.fraction_reduce.specs.Values.{value, Good}
 use Rattle.rules_run.specs.Row.{COLUMNS, constant, Row, column, row}
 use Rattle.run_table.specs.declared.Step.{Step}
 use Rattle.run_table.specs.Held.{heldAt, rowAt, SoundTo}

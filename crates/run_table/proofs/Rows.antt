@@ -11,10 +11,10 @@ use lib.ListN.{length, set, length-set}
 use lib.Seq.{getD-set-same, getD-set-other}
 use lib.IntN.{ℤ, pos}
 use Rattle.fraction.specs.declared.Fraction.{Fraction}
-use Rattle.fraction.specs.Exact.{ℚ, value}
+use Rattle.fraction.specs.Exact.{ℚ}
 use Rattle.fraction.specs.Made.{Made, made, stopped, _>>=_, tab}
 use Rattle.fraction.proofs.Making.{tab-stopped}
-use Rattle.fraction_reduce.specs.Values.{Good}
+use Rattle.fraction_reduce.specs.Values.{value, Good}
 use Rattle.rules_run.specs.Row.{COLUMNS, row}
 use Rattle.run_table.specs.declared.Step.the-variants.{Done, Refused}
 use Rattle.run_table.specs.Held.{heldAt, listedFrom, rowAt, SoundTo, stepped}

@@ -13,9 +13,9 @@ use lib.IntN.{ℤ, pos}
 use mir.Syntax.{w32}
 use mir.Val.{ofZ}
 use Rattle.fraction.specs.declared.Fraction.{Fraction}
-use Rattle.fraction.specs.Exact.{ℚ, value, zeroℚ}
+use Rattle.fraction.specs.Exact.{ℚ, zeroℚ}
 use Rattle.fraction.specs.Made.{Made, made}
-use Rattle.fraction_reduce.specs.Values.{Good}
+use Rattle.fraction_reduce.specs.Values.{value, Good}
 use Rattle.fraction_reduce.proofs.Tests.{zero-value}
 use Rattle.set_members.specs.Sets.{holds}
 use Rattle.set_extremes.specs.Extremes.{Next}

@@ -5,9 +5,8 @@ use Prim.Native.Nat.{ℕ, zero, suc, _+_, _*_, _<_}
 use lib.ListN.{getD}
 use lib.IntN.{ℤ, pos}
 use Rattle.fraction.specs.declared.Fraction.{Fraction}
-use Rattle.fraction.specs.Exact.{value}
 use Rattle.fraction.specs.Made.{Made, made, stopped}
-use Rattle.fraction_reduce.specs.Values.{Good}
+use Rattle.fraction_reduce.specs.Values.{value, Good}
 use Rattle.rules_run.specs.Row.{Row, Table, COLUMNS}
 use Rattle.run_table.specs.declared.Step.{Step}
 use Rattle.run_table.specs.declared.Step.the-variants.{Done, Refused}

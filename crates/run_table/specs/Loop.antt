@@ -6,7 +6,8 @@ use mathlib.Core.List.{List}
 use Prim.Native.Nat.{ℕ, _+_, _≤_, _<_}
 use lib.ListN.{length}
 use lib.IntN.{ℤ}
-use Rattle.fraction.specs.Exact.{ℚ, value}
+use Rattle.fraction.specs.Exact.{ℚ}
+use Rattle.fraction_reduce.specs.Values.{value}
 use Rattle.fraction.specs.Made.{Made, made}
 use Rattle.rules_run.specs.Row.{COLUMNS, row}
 use Rattle.run_table.specs.declared.Step.{Step}

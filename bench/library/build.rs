@@ -1,6 +1,6 @@
 //! Links the archive of the proved library: `libexport.a` in the folder named by
 //! `HAMZULAPH_STATICLIB`, or in `target/staticlib` of the repository. It is compiled for x86-64;
-//! for another processor the toolchain makes a program of it and `server.c`.
+//! for another processor the toolchain makes programs of it, with `server.c` and with `counted.c`.
 
 use std::env;
 use std::path::{Path, PathBuf};
@@ -20,7 +20,7 @@ fn main() {
         println!("cargo:rustc-link-search=native={}", folder.display());
         println!("cargo:rustc-link-lib=static=export");
     } else {
-        make_server(&archive);
+        make_programs(&archive);
     }
 }
 
@@ -31,27 +31,33 @@ fn folder() -> PathBuf {
     }
 }
 
-/// Compiles `server.c` and links it with the archive, as `rt` does with a program. `src/served.rs`
-/// is told where it stands, and the toolchain, which has the emulator.
-fn make_server(archive: &Path) {
-    println!("cargo:rerun-if-changed=server.c");
+/// Makes both programs. `src/emulated.rs` is told where they stand, and the toolchain, which has the emulator.
+fn make_programs(archive: &Path) {
     let own = toolchain().join("on").join(env::consts::ARCH);
-    let tools = own.join("toolchain");
-    let emulator = tools.join("bin/qemu-x86_64");
+    let emulator = own.join("toolchain/bin/qemu-x86_64");
     println!("cargo:rerun-if-changed={}", emulator.display());
     if !emulator.exists() {
         panic!("the library is for x86-64, and there is no emulator {}", emulator.display());
     }
+    println!("cargo:rustc-env=HAMZULAPH_TOOLS={}", own.join("toolchain").display());
+    for (name, variable) in [("server", "HAMZULAPH_SERVER"), ("counted", "HAMZULAPH_COUNTED")] {
+        println!("cargo:rustc-env={variable}={}", make(name, &own, archive).display());
+    }
+}
+
+/// Compiles a C file and links it with the archive, as `rt` does with a program.
+fn make(name: &str, own: &Path, archive: &Path) -> PathBuf {
+    let (source, tools) = (format!("{name}.c"), own.join("toolchain"));
+    println!("cargo:rerun-if-changed={source}");
     let out = PathBuf::from(env::var_os("OUT_DIR").expect("cargo names a folder"));
-    let (object, server) = (out.join("server.o"), out.join("server"));
+    let (object, program) = (out.join(format!("{name}.o")), out.join(name));
     let mut compile = Command::new(tools.join("bin/clang"));
-    compile.args(["--target=x86_64-linux-gnu", "-O2", "-Wall", "-c", "server.c", "-o"]);
+    compile.args(["--target=x86_64-linux-gnu", "-O2", "-Wall", "-c", &source, "-o"]);
     run(compile.arg(&object));
     let mut link = Command::new(own.join("bin/rattle-link"));
     link.args(["--target", "x86_64-unknown-linux-gnu", "--toolchain"]).arg(&tools);
-    run(link.arg("-o").arg(&server).arg(&object).arg(archive));
-    println!("cargo:rustc-env=HAMZULAPH_SERVER={}", server.display());
-    println!("cargo:rustc-env=HAMZULAPH_TOOLS={}", tools.display());
+    run(link.arg("-o").arg(&program).arg(&object).arg(archive));
+    program
 }
 
 fn run(command: &mut Command) {

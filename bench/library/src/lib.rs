@@ -6,6 +6,8 @@
 
 #![warn(missing_docs)]
 
+#[cfg(not(target_arch = "x86_64"))]
+pub mod emulated;
 #[cfg(target_arch = "x86_64")]
 mod linked;
 #[cfg(not(target_arch = "x86_64"))]
@@ -15,6 +17,13 @@ mod served;
 pub use linked::{decide, list_row, LIST_ROWS};
 #[cfg(not(target_arch = "x86_64"))]
 pub use served::{decide, list_row, LIST_ROWS};
+
+/// A variable of the environment that keeps the C library from filling and copying by one repeated
+/// instruction, which is counted once for each byte.
+pub const TUNABLES: (&str, &str) = (
+    "GLIBC_TUNABLES",
+    "glibc.cpu.x86_rep_stosb_threshold=1000000000:glibc.cpu.x86_rep_movsb_threshold=1000000000",
+);
 
 /// An answer in numbers.
 #[derive(Clone, Copy, PartialEq, Eq, Debug)]

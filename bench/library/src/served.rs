@@ -5,7 +5,7 @@
 
 mod message;
 
-use crate::{Line, ListRows, Listed, Told};
+use crate::{emulated, Line, ListRows, Listed, Told};
 use message::{Call, Message};
 use std::cell::RefCell;
 use std::io::{Read, Write};
@@ -13,7 +13,7 @@ use std::net::Shutdown;
 use std::ops::Range;
 use std::os::fd::OwnedFd;
 use std::os::unix::net::UnixStream;
-use std::process::{Child, Command};
+use std::process::Child;
 
 thread_local! {
     static SERVER: RefCell<Server> = RefCell::new(Server::start());
@@ -87,14 +87,11 @@ struct Server {
 }
 
 impl Server {
-    /// Starts the process as `rt` runs a program, and hands it no setting of the emulator.
+    /// Starts the process.
     fn start() -> Server {
-        let tools = env!("HAMZULAPH_TOOLS");
-        let mut command = Command::new(format!("{tools}/bin/qemu-x86_64"));
-        command.arg(format!("{tools}/lib/ld-linux-x86-64.so.2"));
-        command.args(["--library-path", &format!("{tools}/lib"), env!("HAMZULAPH_SERVER")]);
+        let mut command = emulated::command(&[], env!("HAMZULAPH_SERVER"));
         let (connection, other_end) = UnixStream::pair().expect("a connection");
-        command.env_clear().stdin(OwnedFd::from(other_end));
+        command.stdin(OwnedFd::from(other_end));
         let process = command.spawn().unwrap_or_else(|error| panic!("{command:?}: {error}"));
         Server { process, connection, message: Message::default() }
     }

@@ -25,15 +25,24 @@ pub const WORST: &str = "slowest found, 64 x 64";
 
 /// All families.
 pub fn all() -> Vec<Family> {
-    let decided = |name, problems| Family { name, decided: true, problems };
+    let mut all = fixed();
+    all.push(decided(WORST, vec![slowest()]));
+    all
+}
+
+/// The families that are the same in every run.
+pub fn fixed() -> Vec<Family> {
     vec![
         decided(TYPICAL, chosen(gen::congruent, 100, |bytes| bytes[0] == 20)),
         decided("congruent, 64 terms", chosen(gen::congruent, 100, |bytes| bytes[0] == 64)),
         decided("congruence chain, 64 terms", (1..=8).map(|less| chain(64, less)).collect()),
         decided(DENSE, dense(64)),
-        decided(WORST, vec![slowest()]),
         Family { name: "damaged", decided: false, problems: damaged(200) },
     ]
+}
+
+fn decided(name: &'static str, problems: Vec<Vec<u8>>) -> Family {
+    Family { name, decided: true, problems }
 }
 
 /// The first problems of a generator that are decided and as wanted.

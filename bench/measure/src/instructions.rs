@@ -1,6 +1,7 @@
 //! Instructions, counted by valgrind's callgrind.
 
 use crate::child;
+use library::TUNABLES;
 use std::path::Path;
 use std::process::{Command, Stdio};
 
@@ -20,15 +21,10 @@ pub fn per_problem(problems: &Path, count: usize) -> Option<[u64; 2]> {
     Some([ours, plain].map(|with| with.saturating_sub(without) / count as u64))
 }
 
-/// What keeps the C library from filling and copying by one repeated
-/// instruction, which callgrind would count once for each byte.
-const NO_REPEATS: &str =
-    "glibc.cpu.x86_rep_stosb_threshold=1000000000:glibc.cpu.x86_rep_movsb_threshold=1000000000";
-
 /// The instructions of a child that decides each problem a number of times.
 fn of_run(side: &str, problems: &Path, times: usize) -> Option<u64> {
     let mut command = Command::new("valgrind");
-    command.env("GLIBC_TUNABLES", NO_REPEATS);
+    command.env(TUNABLES.0, TUNABLES.1);
     command.args(["--tool=callgrind", "--callgrind-out-file=/dev/null"]);
     command.args(child::command("calls", side, problems, times));
     let output = command.stdout(Stdio::null()).output().ok()?;

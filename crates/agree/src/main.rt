@@ -1,4 +1,5 @@
 // The program: one problem from standard input, its listing on standard output. That the bytes are read and written no contract can say.
+#![tactic(auto)]
 ghost use Rattle.std.specs.Prelude.{◌≤◌, length};
 ghost use Rattle.rules_listing.specs.Page.{PAGE};
 ghost use Rattle.agree.specs.Contract.{Prints};

@@ -1,7 +1,8 @@
 // The answer of a decision.
+#![tactic(auto)]
 
 // Entailed and NotEntailed carry the count of solved unknowns, Contradictory its place, Refused its number and place.
-#[derive(Drop)]
+#[derive(Clone, Copy)]
 pub enum Answer {
     Entailed { solved: usize },
     NotEntailed { solved: usize },

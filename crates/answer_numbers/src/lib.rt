@@ -1,4 +1,5 @@
 // An answer in numbers.
+#![tactic(auto)]
 ghost use Rattle.std.specs.Prelude.{◌≡◌};
 ghost use Rattle.answer_numbers.specs.Numbers.{numbers_of};
 

@@ -1,4 +1,5 @@
 // The decider: bytes and two lent lists in, the answer out, for every byte string and every length of either list.
+#![tactic(auto)]
 ghost use Rattle.run_table.specs.Work.{entered, leaving};
 ghost use Rattle.run_build.specs.Store.{lent_all};
 ghost use Rattle.run_finish.specs.Lent.{lending, lent_at, left_at, comes_back};

@@ -1,4 +1,5 @@
 // The decider and the listing for programs in C or Rust: numbers and slices only.
+#![tactic(auto)]
 ghost use Rattle.export.specs.Contract.{start, last, handed, Handed, RowHanded};
 
 use answer_numbers::in_numbers;

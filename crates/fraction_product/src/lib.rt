@@ -1,4 +1,5 @@
 // The product of two fractions.
+#![tactic(auto)]
 ghost use Rattle.fraction.specs.Limits.{times};
 ghost use Rattle.fraction_reduce.specs.Values.{value, Good, Answers};
 ghost use Rattle.fraction_product.specs.Contract.{WholeFactor};

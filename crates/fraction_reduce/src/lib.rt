@@ -1,4 +1,5 @@
 // Fractions made exactly, in lowest terms, and tested against the limits: what sums and products are made by.
+#![tactic(auto)]
 pub mod reduce;
 
 ghost use Rattle.std.specs.Prelude.{◌≡◌, ◌<◌, ◌^◌};

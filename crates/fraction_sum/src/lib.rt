@@ -1,4 +1,5 @@
 // The sum and the difference of two fractions.
+#![tactic(auto)]
 ghost use Rattle.fraction.specs.Limits.{plus, minus};
 ghost use Rattle.fraction_reduce.specs.Values.{value, Good, Answers};
 ghost use Rattle.fraction_sum.specs.Contract.{Cross};

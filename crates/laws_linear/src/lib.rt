@@ -1,1 +1,2 @@
 // No code: the crate holds affine forms over exact fractions and their laws.
+#![tactic(auto)]

@@ -1,4 +1,5 @@
 // Numbers in decimal, written into a lent buffer.
+#![tactic(auto)]
 ghost use Rattle.rules_listing.specs.Text.{decimal};
 ghost use Rattle.list_text.specs.Wrote.{Fits, Wrote};
 

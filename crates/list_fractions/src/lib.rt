@@ -1,4 +1,5 @@
 // The places of a row: whether each holds a fraction in lowest terms within the limits.
+#![tactic(auto)]
 ghost use Rattle.std.specs.Prelude.{◌≡◌};
 ghost use Rattle.rules_listing.specs.Listing.{is_fraction, all_fractions, places_of};
 ghost use Rattle.list_fractions.specs.Listable.{HoldRow};

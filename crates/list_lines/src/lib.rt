@@ -1,4 +1,5 @@
 // The lines of a listing, each at a place of a lent buffer, or refused with nothing changed.
+#![tactic(auto)]
 ghost use Rattle.std.specs.Prelude.{◌≡◌, ◌+◌, leb};
 ghost use Rattle.rules_listing.specs.Listing.{ROOM};
 ghost use Rattle.list_lines.specs.Contract.{ListsRow, ListsFirst};
@@ -11,7 +12,7 @@ use rules_listing::ROOM;
 use rules_problem::{PLACES, TERMS};
 
 // What listing answers: the new place reached, or the number of its refusal and the old place.
-#[derive(Drop)]
+#[derive(Clone, Copy)]
 pub enum Reached {
     At(usize),
     Refused { number: u8, place: usize },

@@ -1,4 +1,5 @@
 // Bytes and texts, written into a lent buffer.
+#![tactic(auto)]
 ghost use Rattle.std.specs.Prelude.{[], ◌∷◌};
 ghost use Rattle.list_text.specs.Wrote.{Fits, Wrote};
 

@@ -1,4 +1,5 @@
 // The fields of a term record, cut from its eight bytes by the cursor.
+#![tactic(auto)]
 ghost use Rattle.std.specs.Prelude.{◌≡◌};
 ghost use Rattle.record_cursor.specs.Taken.{number_at};
 ghost use Rattle.record_fields.specs.Contract.{RecordThere, FieldsRead};
@@ -6,7 +7,7 @@ ghost use Rattle.record_fields.specs.Contract.{RecordThere, FieldsRead};
 use record_cursor::Cursor;
 
 // The fields as the record has them; a shift has 4 bits.
-#[derive(Drop)]
+#[derive(Clone, Copy)]
 pub struct Fields {
     pub kind: u8,
     pub symbol: u8,

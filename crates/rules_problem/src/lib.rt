@@ -1,4 +1,5 @@
 // The terms of a problem, and the sizes of its table.
+#![tactic(auto)]
 use fraction::Scaled;
 
 // 01, The problem record: the most terms, and the most pairs.
@@ -12,7 +13,7 @@ pub const PLACES: usize = TERMS * COLUMNS;
 
 // What a term is; each case carries only the fields that its kind uses. A constant and a gain hold mantissa / 2^shift as
 // the record has it, not in lowest terms.
-#[derive(Drop)]
+#[derive(Clone, Copy)]
 pub enum Kind {
     Variable {
         symbol: u8,
@@ -49,7 +50,7 @@ pub enum Kind {
     },
 }
 
-#[derive(Drop)]
+#[derive(Clone, Copy)]
 pub struct Term {
     pub kind: Kind,
 }

@@ -1,1 +1,2 @@
 // No code: the crate holds what a reading of a problem is, and what its assumptions force.
+#![tactic(auto)]

@@ -1,4 +1,5 @@
 // Step 3 of the run: each assumption in file order.
+#![tactic(auto)]
 ghost use Rattle.run_table.specs.Work.{lent, entered, leaving};
 ghost use Rattle.run_assume.specs.Contract.{Assumable, Assumes, AllAssumable, AssumesAll};
 

@@ -1,4 +1,5 @@
 // The row of one term, built from the rows before it.
+#![tactic(auto)]
 ghost use Rattle.std.specs.Prelude.{◌≡◌, ℕ};
 ghost use Rattle.set_members.specs.Sets.{holds};
 ghost use Rattle.fraction.specs.Exact.{one_ℚ};

@@ -1,4 +1,5 @@
 // Closing the table under congruence.
+#![tactic(auto)]
 mod wake;
 
 ghost use Rattle.run_table.specs.Work.{lent, entered, leaving};

@@ -1,5 +1,6 @@
 // The difference of two rows, in a row of its own. It goes only through the columns of a set, outside of which the rows hold 0, and
 // through the constant's, which `set_extremes::first` comes to last.
+#![tactic(auto)]
 ghost use Rattle.run_table.specs.Lists.{lists, at_entry, at_exit};
 ghost use Rattle.run_difference.specs.Contract.{Subtractable, Subtracts};
 

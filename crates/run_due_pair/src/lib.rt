@@ -9,6 +9,7 @@
 // equal rows, and so have their inputs. Whatever is due with the later one is then due with the earlier one, and that pair comes first.
 //
 // What each set has to hold for that stands where the sets are declared: `Serving`, in the specs of `run_table`.
+#![tactic(auto)]
 ghost use Rattle.std.specs.Prelude.{◌≡◌, ◌<◌, ◌≤◌, length};
 ghost use Rattle.rules_run.specs.Row.{TERMS};
 ghost use Rattle.run_table.specs.Sets.{SETS, RIGHTS};

@@ -1,4 +1,5 @@
 // When two terms have equal rows.
+#![tactic(auto)]
 ghost use Rattle.std.specs.Prelude.{◌≡◌, ◌+◌, ◌*◌, ◌<◌, ◌≤◌, false, length};
 ghost use Rattle.fraction.specs.Exact.{eq_ℚ};
 ghost use Rattle.fraction_reduce.specs.Values.{value};

@@ -1,4 +1,5 @@
 // The end of a run: both lists are left as the rules say, and the answer is given.
+#![tactic(auto)]
 ghost use Rattle.std.specs.Prelude.{◌*◌, pos};
 ghost use Rattle.rules_outcome.specs.Outcome.{Long};
 ghost use Rattle.rules_run.specs.Row as rule;

@@ -1,5 +1,6 @@
 // Folding a solved form into the rows of the table: into every row that holds the solved unknown, and in a row only into the columns that
 // the form can have.
+#![tactic(auto)]
 ghost use Rattle.fraction_reduce.specs.Values.{value, Answers};
 ghost use Rattle.run_table.specs.Lists.{lists, at_entry, at_exit};
 ghost use Rattle.run_table.specs.Work.{lent, entered, leaving};

@@ -1,4 +1,5 @@
 // Merging two terms: the difference of their rows, the unknown that it solves, and the fold into every row.
+#![tactic(auto)]
 ghost use Rattle.run_table.specs.Lists.{lists, at_entry, row_in};
 ghost use Rattle.run_table.specs.Work.{lent, entered, leaving};
 ghost use Rattle.run_merge.specs.Contract.{Mergeable, Settleable, Solvable, Solves, Settles, Merges};

@@ -1,5 +1,6 @@
 // The form of the unknown that a difference solves, in the difference's place. It goes only through the columns of a set, outside of
 // which the difference holds 0, and through the constant's, which `set_extremes::first` comes to last.
+#![tactic(auto)]
 ghost use Rattle.fraction.specs.Exact.{neg_ℚ, inverse};
 ghost use Rattle.fraction.specs.Limits.{times};
 ghost use Rattle.fraction_reduce.specs.Values.{value, Good, Stands, Answers};

@@ -1,4 +1,5 @@
 // The operations in code on every pair of 24 fractions, the limits' neighbours and cases M and N's numbers among them.
+#![tactic(auto)]
 ghost use Rattle.std.specs.Prelude.{◌≡◌, true};
 ghost use Rattle.fraction_reduce.specs.Values.{Good};
 

@@ -2,6 +2,7 @@
 // short, behind `>` the denominators. A problem behind `~` says the same as the plain one before it: it is compared with that one by
 // word, count and all places of both lists, and `same` is written, or what differs. A line that begins with `#` is a remark, written as
 // it stands.
+#![tactic(auto)]
 use answer::Answer;
 use list_lines::Reached;
 use list_page::PAGE;

@@ -1,5 +1,6 @@
 // Reads byte strings, one a line in hexadecimal digits with a remark behind them, and writes what reading each one answers:
 // the header of the problem that it holds, or the refusal's number and place.
+#![tactic(auto)]
 use libc::{STDIN_FILENO, STDOUT_FILENO};
 use record_reader::Read;
 

@@ -1,4 +1,5 @@
 // The greatest common divisor, by Euclid's rule.
+#![tactic(auto)]
 ghost use Rattle.std.specs.Prelude.{◌≡◌};
 ghost use Rattle.whole.specs.Gcd.{gcd};
 

@@ -1,4 +1,6 @@
 // The signed operations, one to a function: what each gives as a whole number.
+#![tactic(auto)]
+
 ghost use Rattle.std.specs.Prelude.{◌≡◌, ◌<◌, ◌^◌, ◌+ℤ◌, neg_ℤ, nat_abs};
 ghost use Rattle.whole_signed.specs.Contract.{Summands, Product};
 

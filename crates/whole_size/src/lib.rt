@@ -1,4 +1,6 @@
 // The size of a number, and a size with its sign put back.
+#![tactic(auto)]
+
 ghost use Rattle.std.specs.Prelude.{◌≡◌, not, ◌<◌, ◌^◌, neg_ℤ, nat_abs, pos};
 ghost use Rattle.std.specs.Int.Signed.{non_neg};
 ghost use Rattle.whole.specs.Signed.{signed};

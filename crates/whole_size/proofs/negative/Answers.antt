@@ -5,11 +5,7 @@ use lib.IntN.{pos}
 use lib.Signed.{lt_z}
 use mir.Facts.{to_z-of_z}
 use Rattle.whole.proofs.Words.{below_zero}
-use Rattle.whole_size.proofs.negative.Statement.{statement}
-use Rattle.whole_size.proofs.negative.Tie as tie
+use Rattle.whole_size.proofs.negative.Goals as goal
 
-returns : tie.Need-returns
+pub returns : goal.returns
 returns c = ap (λ z. lt_z z (pos 0)) (to_z-of_z c.ranges.a) ∙ below_zero c.args.a
-
-pub negative_spec : {M : Type 1} → statement M
-negative_spec = tie.close (tie.spec returns)

@@ -4,14 +4,10 @@ use mathlib.Core.Path.{◌∙◌}
 use mir.Facts.{to_z-of_z}
 use mir.Syntax.{w32}
 use Rattle.whole.proofs.Words.{fits_opposite, opposite_is}
-use Rattle.whole_signed.proofs.opposite.Statement.{statement}
-use Rattle.whole_signed.proofs.opposite.Tie as tie
+use Rattle.whole_signed.proofs.opposite.Goals as goal
 
-sub-result : tie.Need-overflow-sub-result
-sub-result c = rw (to_z-of_z c.ranges.a) (fits_opposite w32 c.args.a c.requires)
+pub overflow_sub-result : goal.overflow_sub-result
+overflow_sub-result c = rw (to_z-of_z c.ranges.a) (fits_opposite w32 c.args.a c.requires)
 
-returns : tie.Need-returns
+pub returns : goal.returns
 returns c = rw (to_z-of_z c.ranges.a) (to_z-of_z (fits_opposite w32 c.args.a c.requires) ∙ opposite_is c.args.a)
-
-pub opposite_spec : {M : Type 1} → statement M
-opposite_spec = tie.close (tie.spec sub-result returns)

@@ -6,23 +6,19 @@ use Rattle.std.proofs.Common.{arith}
 use lib.IntN.{pos}
 use lib.Signed.{non_neg}
 use mir.Facts.{to_z-of_z, to_z_pos}
-use mir.Syntax.{w32}
+use mir.Syntax.{w32, w64}
 use Rattle.whole.proofs.Words.{fits_opposite, opposite_is, signed_below, signed_upward}
 use Rattle.whole_size.proofs.put_back.Goals as goal
-use Rattle.whole_size.proofs.put_back.Goals.{After-negative}
-
--- the sign as it was tested, of the number as it was lent
-sign_is : (c : After-negative) → c.negative.result ≡ not (non_neg c.args.like)
-sign_is c = rw (to_z-of_z c.ranges.like) at c.negative.ensures
-
-pub overflow_sub-result : goal.overflow_sub-result
-overflow_sub-result c = rw (to_z_pos w32 {n = c.args.size} (omega arith)) (fits_opposite w32 (pos c.args.size) (omega arith))
 
 pub returns-then-negative : goal.returns-then-negative
-returns-then-negative c = let size = c.args.size in
-    rw (to_z_pos w32 {n = size} (omega arith), signed_below c.args.like size (sym (sign_is c) ∙ c.if-negative.true))
+returns-then-negative c =
+    let size = c.args.size in
+    let sign : c.negative.result ≡ not (non_neg c.args.like) = rw (to_z-of_z {w = w64} c.ranges.like) at c.negative.ensures in
+    rw (to_z_pos w32 {n = size} (omega arith), signed_below c.args.like size (sym sign ∙ c.if-negative.true))
     (to_z-of_z (fits_opposite w32 (pos size) (omega arith)) ∙ opposite_is (pos size))
 
 pub returns-else-negative : goal.returns-else-negative
-returns-else-negative c = let size = c.args.size in
-    to_z_pos w32 {n = size} (omega arith) ∙ sym (signed_upward c.args.like size (sym (sign_is c) ∙ c.if-negative.false))
+returns-else-negative c =
+    let size = c.args.size in
+    let sign : c.negative.result ≡ not (non_neg c.args.like) = rw (to_z-of_z {w = w64} c.ranges.like) at c.negative.ensures in
+    to_z_pos w32 {n = size} (omega arith) ∙ sym (signed_upward c.args.like size (sym sign ∙ c.if-negative.false))

@@ -1,5 +1,6 @@
 // Minus a fraction, and 1 over a fraction: neither is ever refused.
 #![tactic(auto)]
+
 ghost use Rattle.fraction.specs.Exact.{neg_ℚ, inverse};
 ghost use Rattle.fraction_reduce.specs.Values.{value, Good, Stands};
 

@@ -23,7 +23,7 @@ use Rattle.fraction_reduce.proofs.Operations.{times_is, plus_is}
 
 -- A word of 32 bits that has the bits of a constant is that constant.
 pub word_is : {x : ℤ} (k : ℤ) → T (ltb (mag k) (2 ^ 31)) → SFits w32 x → of_z w32 x ≡ of_z w32 k → x ≡ k
-word_is k t fits e = sym (to_z-of_z fits) ∙ ap (to_z w32) e ∙ to_z-of_z (sfits_lit t)
+word_is k t fits e = sym (to_z-of_z {w = w32} fits) ∙ ap (to_z w32) e ∙ to_z-of_z {w = w32} (sfits_lit t)
 
 times_one_right : (z : ℤ) → z *ℤ pos 1 ≡ z
 times_one_right (pos n) = ap pos (mul-one n)

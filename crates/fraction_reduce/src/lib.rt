@@ -1,5 +1,6 @@
 // Fractions made exactly, in lowest terms, and tested against the limits: what sums and products are made by.
 #![tactic(auto)]
+
 pub mod reduce;
 
 ghost use Rattle.std.specs.Prelude.{◌≡◌, ◌<◌, ◌^◌};
@@ -22,8 +23,8 @@ pub enum Tested {
 
 // The product of two denominators.
 pub fn bottoms(a: Fraction, b: Fraction) -> u64
-    requires good { Good a }
-    requires good_2 { Good b }
+    requires a_good { Good a }
+    requires b_good { Good b }
     ensures { Bottoms a b result }
 {
     size_wide(times(a.den, b.den))

@@ -1,5 +1,6 @@
 // The product of two fractions.
 #![tactic(auto)]
+
 ghost use Rattle.fraction.specs.Limits.{times};
 ghost use Rattle.fraction_reduce.specs.Values.{value, Good, Answers};
 ghost use Rattle.fraction_product.specs.Contract.{WholeFactor};
@@ -11,8 +12,8 @@ use fraction_reduce::{Tested, bottoms};
 
 // Any two factors.
 fn product_plain(a: Fraction, b: Fraction) -> Tested
-    requires good { Good a }
-    requires good_2 { Good b }
+    requires a_good { Good a }
+    requires b_good { Good b }
     ensures { Answers result (times (value a) (value b)) }
 {
     reduced(whole_signed::times(a.num, b.num), bottoms(a, b))
@@ -34,8 +35,8 @@ fn product_whole(a: Fraction, b: Fraction) -> Tested
 
 // a times b. The tests before the last line only save the gcd: they answer what the plain product would.
 pub fn product(a: Fraction, b: Fraction) -> Tested
-    requires good { Good a }
-    requires good_2 { Good b }
+    requires a_good { Good a }
+    requires b_good { Good b }
     ensures { Answers result (times (value a) (value b)) }
 {
     if a.num == 0 {

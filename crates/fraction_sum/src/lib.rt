@@ -1,5 +1,6 @@
 // The sum and the difference of two fractions.
 #![tactic(auto)]
+
 ghost use Rattle.fraction.specs.Limits.{plus, minus};
 ghost use Rattle.fraction_reduce.specs.Values.{value, Good, Answers};
 ghost use Rattle.fraction_sum.specs.Contract.{Cross};
@@ -12,8 +13,8 @@ use whole_signed::times;
 
 // The numerator of a sum, over the product of the denominators.
 fn cross(a: Fraction, b: Fraction) -> i64
-    requires good { Good a }
-    requires good_2 { Good b }
+    requires a_good { Good a }
+    requires b_good { Good b }
     ensures { Cross a b result }
 {
     whole_signed::plus(times(a.num, b.den), times(b.num, a.den))
@@ -21,8 +22,8 @@ fn cross(a: Fraction, b: Fraction) -> i64
 
 // Any two summands.
 fn sum_plain(a: Fraction, b: Fraction) -> Tested
-    requires good { Good a }
-    requires good_2 { Good b }
+    requires a_good { Good a }
+    requires b_good { Good b }
     ensures { Answers result (plus (value a) (value b)) }
 {
     reduced(cross(a, b), bottoms(a, b))
@@ -30,8 +31,8 @@ fn sum_plain(a: Fraction, b: Fraction) -> Tested
 
 // a plus b. To add 0 needs no gcd.
 pub fn sum(a: Fraction, b: Fraction) -> Tested
-    requires good { Good a }
-    requires good_2 { Good b }
+    requires a_good { Good a }
+    requires b_good { Good b }
     ensures { Answers result (plus (value a) (value b)) }
 {
     if a.num == 0 {
@@ -45,8 +46,8 @@ pub fn sum(a: Fraction, b: Fraction) -> Tested
 
 // a minus b.
 pub fn difference(a: Fraction, b: Fraction) -> Tested
-    requires good { Good a }
-    requires good_2 { Good b }
+    requires a_good { Good a }
+    requires b_good { Good b }
     ensures { Answers result (minus (value a) (value b)) }
 {
     sum(a, negated(b))

@@ -4,14 +4,12 @@ use mathlib.Core.Path.{◌≡◌, sym, ap, ap₂, ◌∙◌}
 use mathlib.Core.List.{List}
 use Prim.Native.Nat.{ℕ, zero, suc, ◌+◌, ◌-◌, ◌*◌, ◌/◌, ◌%◌, ◌^◌, ◌<◌, ◌≤◌}
 use native.Mathlib.Omega.{arith}
-use native.Mathlib.Nat.{mod-lt, mod-one, pow-suc, zero-add, add-zero, add_assoc, mul_comm, one-mul}
+use native.Mathlib.Nat.{mod-one, zero-add, add-zero, add_assoc, one-mul}
 use native.Mathlib.Numerals.{one-add}
 use native.Mathlib.Decide.{dec_lt}
-use lib.Arith.{digits_lt}
 use lib.Pow.{mod-pow-add, mod-mod-pow, shr-shr, shl_exact, field as part, high, low}
 use lib.ListN.{get_or}
 use Rattle.rules_problem.specs.Bits.{bit_at, field}
-use Rattle.rules_problem.proofs.Widths.{field_below}
 use Rattle.record_cursor.specs.declared.Piece.{Piece}
 use Rattle.record_cursor.specs.Contract.{PieceCut}
 use Rattle.record_cursor.specs.Taken.{number_at}

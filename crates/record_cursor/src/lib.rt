@@ -1,5 +1,6 @@
 // The bit cursor: it gives a field of a byte string, or of 64 bits that are one number, and the cursor after it.
 #![tactic(auto)]
+
 ghost use Rattle.std.specs.Prelude.{◌≡◌, ◌+◌, ◌<◌, ◌^◌};
 ghost use Rattle.record_cursor.specs.Contract.{Takeable, Readable, Cuttable, ByteRead, PieceRead, PieceCut};
 ghost use Rattle.record_cursor.specs.Taken.{number_at, taken_at};

@@ -1,5 +1,6 @@
 // The fields of a term record, cut from its eight bytes by the cursor.
 #![tactic(auto)]
+
 ghost use Rattle.std.specs.Prelude.{◌≡◌};
 ghost use Rattle.record_cursor.specs.Taken.{number_at};
 ghost use Rattle.record_fields.specs.Contract.{RecordThere, FieldsRead};

@@ -1,9 +1,8 @@
 -- The tests of a term record, as the code makes them.
--- Main results: `and_came`, `zeros_from_lem`, `other_kinds`, `holds_unless`, `sound_then`, `sound_else`, `sound_alone`, `sound_holds`, `unsound_faulty`. Assume nothing.
+-- Main results: `other_kinds`, `holds_unless`, `sound_then`, `sound_else`, `sound_alone`, `sound_holds`, `unsound_faulty`. Assume nothing.
 use mathlib.Core.Path.{◌≡◌, refl, sym, ap, ◌∙◌}
-use mathlib.Core.Bool.{Bool, true, false, ◌&&◌, cond, and-true, and_assoc, true≢false}
-use mathlib.Core.Logic.{◌⊎◌, inl, inr}
-use mathlib.Core.List.{List, [], ◌∷◌}
+use mathlib.Core.Bool.{Bool, true, false, ◌&&◌, cond, and-true, true≢false}
+use mathlib.Core.List.{List, []}
 use mathlib.Core.Option.{Option, some, none}
 use Prim.Native.Nat.{ℕ, suc, ◌-◌, ◌<◌, ◌≤◌}
 use native.Mathlib.Omega.{arith}
@@ -17,21 +16,6 @@ use Rattle.rules_problem.specs.Record.{Fields, every, unless_faulty, kind_of}
 use Rattle.record_term.specs.declared.TermRead.{TermRead}
 use Rattle.record_term.specs.declared.TermRead.TheVariants.{Sound, Faulty}
 use Rattle.record_term.specs.Terms.{all_zeros, below, sound_if, holds_kind, Faultless, HoldsTerm}
-
--- The second test is made where the first one holds.
-pub and_came : {Taken Left : Type 0} (a b r : Bool) → (Taken → a ≡ true) → (Left → a ≡ false) → (Taken × (r ≡ b)) ⊎ (Left × (r ≡ a)) → r ≡ (a && b)
-and_came a b r on off (inl (taken, e)) = e ∙ sym (ap (λ x. x && b) (on taken))
-and_came a b r on off (inr (left, e)) = e ∙ off left ∙ sym (ap (λ x. x && b) (off left))
-
--- tests for zero, made from the left
-unfoldable pub zeros_from : Bool → List ℕ → Bool
-zeros_from b [] = b
-zeros_from b (x ∷ rest) = zeros_from (b && eqb x 0) rest
-
-pub zeros_from_lem : (b : Bool) (rest : List ℕ) → (b && all_zeros rest) ≡ zeros_from b rest
-unfolding all_zeros every zeros_from
-zeros_from_lem b [] = and-true b
-zeros_from_lem b (x ∷ rest) = sym (and_assoc b (eqb x 0) (all_zeros rest)) ∙ zeros_from_lem (b && eqb x 0) rest
 
 past_table : (own : ℕ) (f : Fields) → ¬ (f.kind < 9) → kind_of own f ≡ none
 unfolding kind_of

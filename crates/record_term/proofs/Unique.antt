@@ -2,7 +2,6 @@
 -- Main results: `read_term_unique`, `held_term_unique`. Assume nothing.
 use mathlib.Core.Path.{◌≡◌, sym, ◌∙◌}
 use Rattle.unique.specs.Twice.{Twice}
-use Rattle.record_term.specs.declared.TermRead.{TermRead}
 use Rattle.record_term.specs.declared.TermRead.TheVariants.{Sound}
 use Rattle.record_term.proofs.held_term.Kinds as held-term-kinds
 use Rattle.record_term.proofs.held_term.Reads as held-term

@@ -1,5 +1,6 @@
 // The term that a record holds, or that the record is faulty.
 #![tactic(auto)]
+
 ghost use Rattle.std.specs.Prelude.{◌≡◌, ◌∷◌, [], ℕ};
 ghost use Rattle.rules_problem.specs.Bits.{signed16};
 ghost use Rattle.rules_problem.specs.Record.{scaled, kind_of};

@@ -1,5 +1,6 @@
 // An answer in numbers.
 #![tactic(auto)]
+
 ghost use Rattle.std.specs.Prelude.{◌≡◌};
 ghost use Rattle.answer_numbers.specs.Numbers.{numbers_of};
 

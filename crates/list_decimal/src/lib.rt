@@ -1,5 +1,6 @@
 // Numbers in decimal, written into a lent buffer.
 #![tactic(auto)]
+
 ghost use Rattle.rules_listing.specs.Text.{decimal};
 ghost use Rattle.list_text.specs.Wrote.{Fits, Wrote};
 

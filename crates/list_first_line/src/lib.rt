@@ -1,5 +1,6 @@
 // The first line of a listing, written at a place of a lent buffer.
 #![tactic(auto)]
+
 ghost use Rattle.list_first_line.specs.Contract.{SaidFits, SaidWritten, FirstFits, FirstWritten};
 
 use answer::Answer;

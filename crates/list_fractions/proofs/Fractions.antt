@@ -1,6 +1,6 @@
 -- The test of a place: what it takes to be a fraction in lowest terms within the limits.
--- Main results: `fraction_is`, `fraction_not_low`, `fraction_not_wide`, `fraction_by_gcd`. Assume nothing.
-use mathlib.Core.Path.{◌≡◌, refl}
+-- Main results: `fraction_is`, `fraction_not_low`, `fraction_not_wide`, `fraction_by_gcd`, `tested_low`, `tested_by_gcd`. Assume nothing.
+use mathlib.Core.Path.{◌≡◌, refl, sym, ap, ap₂, ◌∙◌}
 use mathlib.Core.Bool.{Bool, true, false, ◌&&◌}
 use Prim.Native.Nat.{ℕ, ◌≤◌, ◌<◌}
 use native.Mathlib.Omega.{arith}
@@ -8,8 +8,9 @@ use lib.Dec.{eqb, leb}
 use lib.IntN.{ℤ, pos, negsuc, nat_abs}
 use lib.Signed.{le_z, lt_z}
 use mir.Syntax.{w32}
-use mir.Val.{SFits}
-use borrow.Author.Tests.{leb-true, eqb-true, le-leb, lt-leb, ltb-true, ltb-false}
+use mir.Val.{SFits, to_z, of_z}
+use mir.Facts.{to_z-of_z}
+use borrow.Author.Tests.{leb-true, eqb-true, le-leb, lt-leb, lt-ltb, ltb-true, ltb-false}
 use Rattle.whole.specs.Gcd.{gcd}
 use Rattle.fraction.specs.Limits.{limit}
 use Rattle.rules_listing.specs.Listing.{is_fraction}
@@ -74,3 +75,27 @@ word_below (negsuc n) h fits = let no_way : ◌≡◌ {A = ℕ} 0 1 = cc in absu
 pub fraction_by_gcd : (num den : ℤ) → lt_z den (pos 1) ≡ false → SFits w32 den → nat_abs num ≤ limit → is_fraction num den ≡ eqb (gcd (nat_abs num) (nat_abs den)) 1
 unfolding is_fraction
 fraction_by_gcd num den h fits above = rw (not_low den h, le-leb (nat_abs den) limit (word_below den h fits), le-leb (nat_abs num) limit above)
+
+-- The tests of the code, on numbers of 32 bits: below 1,
+pub tested_low : (num den : ℤ) (n : ℕ) → SFits w32 den → lt_z (to_z w32 (of_z w32 den)) (pos n) ≡ true → n ≤ 1 → false ≡ is_fraction num den
+tested_low num den n fits low least = sym (fraction_not_low num den (lower den n (rw (to_z-of_z {w = w32} fits) at low) least))
+  where
+    lower : (den : ℤ) (n : ℕ) → lt_z den (pos n) ≡ true → n ≤ 1 → lt_z den (pos 1) ≡ true
+    lower (pos m) n h least = lt-ltb m 1 (omega (arith, ltb-true m n h))
+    lower (negsuc m) n h least = refl
+
+-- and by the greatest common divisor.
+pub tested_by_gcd : (num den : ℤ) {top bottom divisor : ℕ}
+    → SFits w32 num
+    → SFits w32 den
+    → lt_z (to_z w32 (of_z w32 den)) (pos 1) ≡ false
+    → top ≡ nat_abs (to_z w32 (of_z w32 num))
+    → top ≤ 2147483647
+    → bottom ≡ nat_abs (to_z w32 (of_z w32 den))
+    → divisor ≡ gcd top bottom
+    → eqb divisor 1 ≡ is_fraction num den
+unfolding limit
+tested_by_gcd num den fits fits' least top_is above bottom_is is =
+    let size = top_is ∙ ap nat_abs (to_z-of_z {w = w32} fits) in
+    ap (λ g. eqb g 1) (is ∙ ap₂ gcd size (bottom_is ∙ ap nat_abs (to_z-of_z {w = w32} fits')))
+    ∙ sym (fraction_by_gcd num den (rw (to_z-of_z {w = w32} fits') at least) fits' (omega arith))

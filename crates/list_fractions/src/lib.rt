@@ -1,5 +1,6 @@
 // The places of a row: whether each holds a fraction in lowest terms within the limits.
 #![tactic(auto)]
+
 ghost use Rattle.std.specs.Prelude.{◌≡◌};
 ghost use Rattle.rules_listing.specs.Listing.{is_fraction, all_fractions, places_of};
 ghost use Rattle.list_fractions.specs.Listable.{HoldRow};
@@ -12,6 +13,7 @@ use whole_size::size;
 const LIMIT: u64 = 2147483647;
 
 // 01, The listing: "a fraction in lowest terms within the limits". A denominator above 0 is within them.
+#[tactic(auto, using(crate::proofs::Fractions::tested_low))]
 pub fn is_fraction(num: i32, den: i32) -> bool
     ensures { result ≡ is_fraction num den }
 {

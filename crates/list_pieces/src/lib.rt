@@ -1,5 +1,6 @@
 // The pieces of a row's line.
 #![tactic(auto)]
+
 ghost use Rattle.std.specs.Prelude.{◌≡◌, [], ◌∷◌};
 ghost use Rattle.rules_listing.specs.Line.{sign_of, term_text};
 ghost use Rattle.list_text.specs.Wrote.{Fits, Wrote};

@@ -1,5 +1,6 @@
 // The line of a row, written at a place of a lent buffer.
 #![tactic(auto)]
+
 ghost use Rattle.rules_listing.specs.Listing.{held_line};
 ghost use Rattle.list_text.specs.Wrote.{Wrote};
 ghost use Rattle.list_pieces.specs.Contract.{PiecesFit};

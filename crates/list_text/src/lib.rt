@@ -1,5 +1,6 @@
 // Bytes and texts, written into a lent buffer.
 #![tactic(auto)]
+
 ghost use Rattle.std.specs.Prelude.{[], ◌∷◌};
 ghost use Rattle.list_text.specs.Wrote.{Fits, Wrote};
 

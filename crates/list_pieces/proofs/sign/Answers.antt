@@ -3,15 +3,15 @@ use mathlib.Core.Path.{◌≡◌, refl}
 use mathlib.Core.Bool.{true, false}
 use mathlib.Core.List.{[], ◌∷◌}
 use Prim.Native.Nat.{ℕ}
-use native.Mathlib.Omega.{arith}
+use Rattle.std.proofs.Common.{arith}
 use lib.IntN.{ℤ, pos, negsuc}
 use lib.Signed.{lt_z}
 use mir.Facts.{to_z-of_z}
+use mir.Syntax.{w32}
 use borrow.Author.Tests.{ltb-true}
 use Rattle.rules_listing.specs.Text.{ascii}
 use Rattle.rules_listing.specs.Line.{sign_of}
-use Rattle.list_pieces.proofs.sign.Statement.{statement}
-use Rattle.list_pieces.proofs.sign.Tie as tie
+use Rattle.list_pieces.proofs.sign.Goals as goal
 
 below : (num : ℤ) → lt_z num (pos 0) ≡ true → 45 ∷ [] ≡ sign_of num
 unfolding sign_of ascii
@@ -23,11 +23,8 @@ unfolding sign_of ascii
 upward (pos n) h = refl
 upward (negsuc n) h = let no_way : ◌≡◌ {A = ℕ} 0 1 = cc in absurd (omega arith)
 
-returns : tie.Need-returns
-returns c = let start : tie.Start = search in below _ (rw (to_z-of_z start.fits.num) at c.if1.true)
+pub returns-then-num-lt0 : goal.returns-then-num-lt0
+returns-then-num-lt0 c = below _ (rw (to_z-of_z {w = w32} c.ranges.num) at c.if-num-lt0.true)
 
-returns-2 : tie.Need-returns-2
-returns-2 c = let start : tie.Start = search in upward _ (rw (to_z-of_z start.fits.num) at c.if1.false)
-
-pub sign_spec : {M : Type 1} → statement M
-sign_spec = tie.close (tie.spec returns returns-2)
+pub returns-else-num-lt0 : goal.returns-else-num-lt0
+returns-else-num-lt0 c = upward _ (rw (to_z-of_z {w = w32} c.ranges.num) at c.if-num-lt0.false)

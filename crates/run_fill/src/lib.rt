@@ -1,5 +1,6 @@
 // Fills places of a list with one number.
 #![tactic(auto)]
+
 ghost use Rattle.run_fill.specs.Contract.{Fillable, Filled};
 
 // The number x at each place from `from` up to `end`.

@@ -1,5 +1,6 @@
 // The least and the greatest number of a set of numbers below 64: loops go through the set by them.
 #![tactic(auto)]
+
 ghost use Rattle.std.specs.Prelude.{◌<◌, ◌≤◌};
 ghost use Rattle.set_extremes.specs.Extremes.{LeastBelow, Next, Rest, Last};
 

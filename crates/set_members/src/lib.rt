@@ -1,5 +1,6 @@
 // Sets of numbers below 64, as the bits of one number: a bit for each number in the set.
 #![tactic(auto)]
+
 ghost use Rattle.std.specs.Prelude.{◌≡◌, not, ◌&&◌, ◌||◌, ℕ, ◌<◌, eqb};
 ghost use Rattle.set_members.specs.Sets.{holds};
 

@@ -1,5 +1,4 @@
 -- `run_fill::fill` meets its contract: the places passed hold x, the others what they held. Assumes nothing.
-use Prim.Native.Nat.{◌-◌}
 use Rattle.run_fill.proofs.Filling.{filling_begins, filling_turns, filling_ends}
 use Rattle.run_fill.proofs.fill.Goals as goal
 

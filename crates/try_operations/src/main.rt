@@ -1,10 +1,12 @@
 // The operations in code on every pair of 24 fractions, the limits' neighbours and cases M and N's numbers among them.
 #![tactic(auto)]
+
 ghost use Rattle.std.specs.Prelude.{◌≡◌, true};
 ghost use Rattle.fraction_reduce.specs.Values.{Good};
 
 use fraction::Fraction;
 use fraction_reduce::Tested;
+use std::io;
 
 const COUNT: usize = 24;
 
@@ -47,27 +49,22 @@ fn is_good(f: Fraction) -> bool
     list_fractions::is_fraction(f.num, f.den)
 }
 
-fn show_fraction(f: Fraction) {
+fn show_fraction(rt: &impl Print, f: Fraction) -> io::Result<()> {
     if f.num < 0 {
-        io::write_all(1, b"-");
+        print!(rt; "-")?;
     }
-    io::print_decimal(1, whole_size::size(f.num));
-    io::write_all(1, b"/");
-    io::print_decimal(1, whole_size::size(f.den));
+    print!(rt; "{}/{}", whole_size::size(f.num), whole_size::size(f.den))
 }
 
 fn wide(x: u8) -> u64 {
     x as u64
 }
 
-fn show(made: Tested) {
-    io::write_all(1, b" ");
+fn show(rt: &impl Print, made: Tested) -> io::Result<()> {
+    print!(rt; " ")?;
     match made {
-        Tested::Fits(f) => show_fraction(f),
-        Tested::Refused(number) => {
-            io::write_all(1, b"refused ");
-            io::print_decimal(1, wide(number));
-        }
+        Tested::Fits(f) => show_fraction(rt, f),
+        Tested::Refused(number) => print!(rt; "refused {}", wide(number)),
     }
 }
 
@@ -80,27 +77,28 @@ fn quotient(a: Fraction, b: Fraction) -> Tested
 }
 
 // One line: product, quotient, sum, difference of a and b.
-fn show_operations(a: Fraction, b: Fraction)
+fn show_operations(rt: &impl Print, a: Fraction, b: Fraction) -> io::Result<()>
     requires good { Good a }
     requires good_2 { Good b }
 {
-    show_fraction(a);
-    io::write_all(1, b" and ");
-    show_fraction(b);
-    io::write_all(1, b":");
-    show(fraction_product::product(a, b));
-    show(quotient(a, b));
-    show(fraction_sum::sum(a, b));
-    show(fraction_sum::difference(a, b));
-    io::write_all(1, b"\n");
+    show_fraction(rt, a)?;
+    print!(rt; " and ")?;
+    show_fraction(rt, b)?;
+    print!(rt; ":")?;
+    show(rt, fraction_product::product(a, b))?;
+    show(rt, quotient(a, b))?;
+    show(rt, fraction_sum::sum(a, b))?;
+    show(rt, fraction_sum::difference(a, b))?;
+    println!(rt)
 }
 
-fn show_pair(a: Fraction, b: Fraction) {
+fn show_pair(rt: &impl Print, a: Fraction, b: Fraction) -> io::Result<()> {
     if is_good(a) {
         if is_good(b) {
-            show_operations(a, b);
+            show_operations(rt, a, b)?;
         }
     }
+    Ok(())
 }
 
 fn pick(i: usize) -> Fraction {
@@ -113,18 +111,20 @@ fn pick(i: usize) -> Fraction {
     Fraction { num: 0, den: 1 }
 }
 
-fn show_with(i: usize) {
+fn show_with(rt: &impl Print, i: usize) -> io::Result<()> {
     let mut j: usize = 0;
     while j < COUNT {
-        show_pair(pick(i), pick(j));
+        show_pair(rt, pick(i), pick(j))?;
         j += 1;
     }
+    Ok(())
 }
 
-fn main() {
+fn main(rt: HostRuntime) -> io::Result<()> {
     let mut i: usize = 0;
     while i < COUNT {
-        show_with(i);
+        show_with(&rt, i)?;
         i += 1;
     }
+    Ok(())
 }

@@ -3,12 +3,16 @@
 // word, count and all places of both lists, and `same` is written, or what differs. A line that begins with `#` is a remark, written as
 // it stands.
 #![tactic(auto)]
+
 use answer::Answer;
 use list_lines::Reached;
 use list_page::PAGE;
 use rules_problem::PLACES;
+use std::io;
+use std::io::{Read, Write};
 
-const TEXT: usize = 131072;
+// As much of the text is read.
+const TEXT: u64 = 131072;
 
 // 645 bytes are enough to judge any length.
 const INPUT: usize = 1024;
@@ -59,142 +63,181 @@ fn difference(one: &[i32], other: &[i32]) -> usize {
     k
 }
 
-fn differs(what: &[u8], place: usize) {
-    io::write_all(1, what);
-    io::print_decimal(1, place as u64);
-    io::write_all(1, b"\n");
+fn differs(rt: &impl Print, what: &[u8], place: usize) -> io::Result<()> {
+    io::writer(rt).write_all(what)?;
+    println!(rt; "{place}")
 }
 
 // The lists of two problems that have one word and one count.
-fn compare_lists(nums: &[i32], dens: &[i32], base_nums: &[i32], base_dens: &[i32]) {
+fn compare_lists(
+    rt: &impl Print,
+    nums: &[i32],
+    dens: &[i32],
+    base_nums: &[i32],
+    base_dens: &[i32],
+) -> io::Result<()> {
     let num = difference(nums, base_nums);
     if num < PLACES {
-        return differs(b"differs: the numerator at ", num);
+        return differs(rt, b"differs: the numerator at ", num);
     }
     let den = difference(dens, base_dens);
     if den < PLACES {
-        return differs(b"differs: the denominator at ", den);
+        return differs(rt, b"differs: the denominator at ", den);
     }
-    io::write_all(1, b"same\n");
+    println!(rt; "same")
 }
 
 // By word, count, and all places of both lists.
 fn compare(
+    rt: &impl Print,
     answer: Answer,
     base: Answer,
     nums: &[i32],
     dens: &[i32],
     base_nums: &[i32],
     base_dens: &[i32],
-) {
+) -> io::Result<()> {
     if word(answer) != word(base) {
-        io::write_all(1, b"differs: the word\n");
-        return;
+        return println!(rt; "differs: the word");
     }
     if count(answer) != count(base) {
-        io::write_all(1, b"differs: the count\n");
-        return;
+        return println!(rt; "differs: the count");
     }
-    compare_lists(nums, dens, base_nums, base_dens);
+    compare_lists(rt, nums, dens, base_nums, base_dens)
 }
 
 // The listing of a problem, or the number with which it is refused.
-fn write_listing(bytes: &[u8], answer: Answer, nums: &[i32], dens: &[i32]) {
+fn write_listing(
+    rt: &impl Print,
+    bytes: &[u8],
+    answer: Answer,
+    nums: &[i32],
+    dens: &[i32],
+) -> io::Result<()> {
     let mut text = [0u8; PAGE];
     match list_page::listing_of(&mut text, bytes, answer, nums, dens) {
         Reached::At(end) => {
             let written = &text[0..end];
-            io::write_all(1, written);
+            io::writer(rt).write_all(written)
         }
-        Reached::Refused { number, place: _ } => differs(b"not listed: ", number as usize),
+        Reached::Refused { number, place: _ } => differs(rt, b"not listed: ", number as usize),
     }
 }
 
 // A problem that says the same as another, decided in lists of its own that hold something else before. A refused one is not compared.
-fn member(bytes: &[u8], base: Answer, base_nums: &[i32], base_dens: &[i32]) {
+fn member(
+    rt: &impl Print,
+    bytes: &[u8],
+    base: Answer,
+    base_nums: &[i32],
+    base_dens: &[i32],
+) -> io::Result<()> {
     let mut nums = [-1i32; PLACES];
     let mut dens = [-1i32; PLACES];
     let answer = decide::decide(bytes, &mut nums, &mut dens);
     if word(answer) == REFUSED {
-        return write_listing(bytes, answer, &nums, &dens);
+        return write_listing(rt, bytes, answer, &nums, &dens);
     }
-    compare(answer, base, &nums, &dens, base_nums, base_dens);
+    compare(rt, answer, base, &nums, &dens, base_nums, base_dens)
 }
 
-fn listed(bytes: &[u8], nums: &mut [i32], dens: &mut [i32]) -> Answer {
+fn listed(rt: &impl Print, bytes: &[u8], nums: &mut [i32], dens: &mut [i32]) -> io::Result<Answer> {
     let answer = decide::decide(bytes, nums, dens);
-    write_listing(bytes, answer, nums, dens);
-    answer
+    write_listing(rt, bytes, answer, nums, dens)?;
+    Ok(answer)
 }
 
-fn short_numerators(bytes: &[u8]) {
+fn short_numerators(rt: &impl Print, bytes: &[u8]) -> io::Result<()> {
     let mut nums = [0i32; TOO_FEW];
     let mut dens = [0i32; PLACES];
-    listed(bytes, &mut nums, &mut dens);
+    listed(rt, bytes, &mut nums, &mut dens)?;
+    Ok(())
 }
 
-fn short_denominators(bytes: &[u8]) {
+fn short_denominators(rt: &impl Print, bytes: &[u8]) -> io::Result<()> {
     let mut nums = [0i32; PLACES];
     let mut dens = [0i32; TOO_FEW];
-    listed(bytes, &mut nums, &mut dens);
+    listed(rt, bytes, &mut nums, &mut dens)?;
+    Ok(())
 }
 
 // A problem behind its mark, and the answer that those behind `~` are compared with after it.
-fn problem(mark: u8, bytes: &[u8], base: Answer, nums: &mut [i32], dens: &mut [i32]) -> Answer {
+fn problem(
+    rt: &impl Print,
+    mark: u8,
+    bytes: &[u8],
+    base: Answer,
+    nums: &mut [i32],
+    dens: &mut [i32],
+) -> io::Result<Answer> {
     match mark {
-        b'<' => short_numerators(bytes),
-        b'>' => short_denominators(bytes),
-        b'~' => member(bytes, base, nums, dens),
-        _ => return listed(bytes, nums, dens),
+        b'<' => short_numerators(rt, bytes)?,
+        b'>' => short_denominators(rt, bytes)?,
+        b'~' => member(rt, bytes, base, nums, dens)?,
+        _ => return listed(rt, bytes, nums, dens),
     }
-    base
+    Ok(base)
 }
 
-fn read(mark: u8, digits: &[u8], base: Answer, nums: &mut [i32], dens: &mut [i32]) -> Answer {
+fn read(
+    rt: &impl Print,
+    mark: u8,
+    digits: &[u8],
+    base: Answer,
+    nums: &mut [i32],
+    dens: &mut [i32],
+) -> io::Result<Answer> {
     let mut bytes = [0u8; INPUT];
     let n = try_hex::read(digits, &mut bytes);
     if n <= INPUT {
         let read = &bytes[0..n];
-        return problem(mark, read, base, nums, dens);
+        return problem(rt, mark, read, base, nums, dens);
     }
-    base
+    Ok(base)
 }
 
 // A line, and the answer that problems are compared with after it.
-fn line(text: &[u8], base: Answer, nums: &mut [i32], dens: &mut [i32]) -> Answer {
+fn line(
+    rt: &impl Print,
+    text: &[u8],
+    base: Answer,
+    nums: &mut [i32],
+    dens: &mut [i32],
+) -> io::Result<Answer> {
     if text.len() == 0 {
-        return base;
+        return Ok(base);
     }
     let mark = text[0];
     match mark {
         b'#' => {
-            io::write_all(1, text);
-            base
+            io::writer(rt).write_all(text)?;
+            Ok(base)
         }
         b'<' | b'>' | b'~' => {
             let digits = &text[1..];
-            read(mark, digits, base, nums, dens)
+            read(rt, mark, digits, base, nums, dens)
         }
-        _ => read(mark, text, base, nums, dens),
+        _ => read(rt, mark, text, base, nums, dens),
     }
 }
 
-fn each_line(text: &[u8], nums: &mut [i32], dens: &mut [i32]) {
+fn each_line(rt: &impl Print, text: &[u8], nums: &mut [i32], dens: &mut [i32]) -> io::Result<()> {
     let mut base = Answer::Contradictory { place: 0 };
     let mut at: usize = 0;
     while at < text.len() {
         let rest = &text[at..];
         let length = try_hex::line_length(rest);
         let first_line = &rest[0..length];
-        base = line(first_line, base, nums, dens);
+        base = line(rt, first_line, base, nums, dens)?;
         at += length;
     }
+    Ok(())
 }
 
-fn main() {
-    let mut text = [0u8; TEXT];
-    let n = io::read_full(0, &mut text);
+fn main(rt: HostRuntime) -> io::Result<()> {
+    let mut text = Vec::new(rt.alloc());
+    rt.stdin().take(TEXT).read_to_end(&mut text)?;
     let mut nums = [0i32; PLACES];
     let mut dens = [0i32; PLACES];
-    each_line(&text[..n], &mut nums, &mut dens);
+    each_line(&rt, &text, &mut nums, &mut dens)
 }

@@ -1,55 +1,61 @@
 // Reads byte strings, one a line in hexadecimal digits with a remark behind them, and writes what reading each one answers:
 // the header of the problem that it holds, or the refusal's number and place.
 #![tactic(auto)]
-use libc::{STDIN_FILENO, STDOUT_FILENO};
+
 use record_reader::Read;
+use std::io;
+use std::io::Read as _;
 
 // 645 bytes are enough to judge any length.
 const INPUT: usize = 1024;
 
-fn number(n: usize) {
-    io::write_all(STDOUT_FILENO, b" ");
-    io::print_decimal(STDOUT_FILENO, n as u64);
+// As much of the text is read.
+const TEXT: u64 = 65536;
+
+fn number(rt: &impl Print, n: usize) -> io::Result<()> {
+    print!(rt; " {n}")
 }
 
-fn answer(bytes: &[u8]) {
+fn answer(rt: &impl Print, bytes: &[u8]) -> io::Result<()> {
     match record_reader::read_problem(bytes) {
         Read::Sound(header) => {
-            io::write_all(STDOUT_FILENO, b"sound");
-            number(header.n);
-            number(header.m);
-            number(header.left);
-            number(header.right);
+            print!(rt; "sound")?;
+            number(rt, header.n)?;
+            number(rt, header.m)?;
+            number(rt, header.left)?;
+            number(rt, header.right)?;
         }
         Read::Refused { number: n, place } => {
-            io::write_all(STDOUT_FILENO, b"refused");
-            number(n as usize);
-            number(place);
+            print!(rt; "refused")?;
+            number(rt, n as usize)?;
+            number(rt, place)?;
         }
     }
-    io::write_all(STDOUT_FILENO, b"\n");
+    println!(rt)
 }
 
-fn answer_line(line: &[u8]) {
+fn answer_line(rt: &impl Print, line: &[u8]) -> io::Result<()> {
     let mut bytes = [0u8; INPUT];
     let n = try_hex::read(line, &mut bytes);
     if n <= INPUT {
         let read = &bytes[0..n];
-        answer(read);
+        answer(rt, read)?;
     }
+    Ok(())
 }
 
-fn each_line(text: &[u8]) {
+fn each_line(rt: &impl Print, text: &[u8]) -> io::Result<()> {
     let mut at: usize = 0;
     while at < text.len() {
         let rest = &text[at..];
-        answer_line(rest);
+        answer_line(rt, rest)?;
         at += try_hex::line_length(rest);
     }
+    Ok(())
 }
 
-fn main() {
-    let mut text = io::large_buffer();
-    let n = io::read_full(STDIN_FILENO, &mut text);
-    each_line(&text[..n]);
+fn main(rt: HostRuntime) -> io::Result<()> {
+    let mut text = Vec::new(rt.alloc());
+    rt.stdin().take(TEXT).read_to_end(&mut text)?;
+    each_line(&rt, &text)
 }

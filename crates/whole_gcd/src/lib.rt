@@ -1,5 +1,6 @@
 // The greatest common divisor, by Euclid's rule.
 #![tactic(auto)]
+
 ghost use Rattle.std.specs.Prelude.{◌≡◌};
 ghost use Rattle.whole.specs.Gcd.{gcd};
 

@@ -1,5 +1,6 @@
 // The first faulty term record, and the first pair with a side that is no term.
 #![tactic(auto)]
+
 ghost use Rattle.std.specs.Prelude.{◌≡◌, ◌+◌};
 ghost use Rattle.record_term.specs.Contract.{RecordOf};
 ghost use Rattle.record_faults.specs.Contract.{RecordsThere, SidesThere, PairsThere, First};

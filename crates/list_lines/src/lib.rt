@@ -1,5 +1,6 @@
 // The lines of a listing, each at a place of a lent buffer, or refused with nothing changed.
 #![tactic(auto)]
+
 ghost use Rattle.std.specs.Prelude.{◌≡◌, ◌+◌, leb};
 ghost use Rattle.rules_listing.specs.Listing.{ROOM};
 ghost use Rattle.list_lines.specs.Contract.{ListsRow, ListsFirst};

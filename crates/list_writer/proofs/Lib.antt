@@ -1,3 +1,2 @@
-mod Again
 pub mod Lines
 pub mod Unique

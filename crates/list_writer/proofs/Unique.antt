@@ -2,34 +2,25 @@
 -- Main results: a law NAME-unique for each public function NAME. Assume nothing.
 use mathlib.Core.Path.{◌≡◌, sym, ap₂, ◌∙◌}
 use contract.Lifetimes.{Lfts}
-use base.Logic.{emp}
-use borrow.Fn.Claims.{AllOf}
-use borrow.Fn.Read.{ReadAt, no_know, reads}
-use borrow.Fn.World.{World, ArgsD, w₀}
+use borrow.Fn.World.{ArgsD}
 use denote.Triple.Clauses.{AtExit}
 use Rattle.list_lines.specs.declared.Reached.{Reached}
 use Rattle.list_lines.proofs.Unique.{listed_unique}
 use Rattle.list_writer.specs.declared.Writer.{Writer}
-use Rattle.list_writer.specs.Contract.{moved_on, RowWritten, LineWritten}
+use Rattle.list_writer.specs.Contract.{moved_on}
+use Rattle.list_writer.proofs.list_row.Reads as row-reads
+use Rattle.list_writer.proofs.first_line.Reads as line-reads
 use Rattle.list_writer.specs.contracts.list_row as list-row
 use Rattle.list_writer.specs.contracts.first_line as first-line
-
--- A function that is walked by hand has no `Reads`: what its `ensures` says is read here, by the rules that the toolchain reads by.
-module _ (w : World) where
-  abbrev row_read : (κs : Lfts 4) (a : ArgsD list-row.signature κs) (x : Reached) (end : AtExit list-row.ended κs) → ReadAt w (λ w. emp w.𝓤) no_know ((list-row.clauses w.𝓛 w.𝓜.mem w.𝓡.run κs a).ensures tt x end)
-  row_read κs a x end = search reads
-
-  abbrev line_read : (κs : Lfts 2) (a : ArgsD first-line.signature κs) (x : Reached) (end : AtExit first-line.ended κs) → ReadAt w (λ w. emp w.𝓤) no_know ((first-line.clauses w.𝓛 w.𝓜.mem w.𝓡.run κs a).ensures tt x end)
-  line_read κs a x end = search reads
 
 -- The same answer and the same content make the same writer.
 same_writer : (w : Writer) {w' w'' : Writer} {r s : Reached} → w' ≡ moved_on w r w'.buf.now → w'' ≡ moved_on w s w''.buf.now → (r ≡ s) × (w'.buf.now ≡ w''.buf.now) → (r ≡ s) × (w' ≡ w'')
 same_writer w first second (answers, buffers) = (answers, first ∙ ap₂ (moved_on w) answers buffers ∙ sym second)
 
-pub list_row_unique : (κs : Lfts 4) (a : ArgsD list-row.signature κs) (x y : Reached) (end end' : AtExit list-row.ended κs) → AllOf (row_read w₀ κs a x end).owes → AllOf (row_read w₀ κs a y end').owes → (x ≡ y) × (end.0.now ≡ end'.0.now)
+pub list_row_unique : (κs : Lfts 4) (a : ArgsD list-row.signature κs) (x y : Reached) (end end' : AtExit list-row.ended κs) → row-reads.Post κs a x end → row-reads.Post κs a y end' → (x ≡ y) × (end.0.now ≡ end'.0.now)
 list_row_unique κs a x y end end' first second =
     same_writer a.0.now first.moves second.moves (listed_unique x y _ _ (first.lists.answers ∙ sym second.lists.answers))
 
-pub first_line_unique : (κs : Lfts 2) (a : ArgsD first-line.signature κs) (x y : Reached) (end end' : AtExit first-line.ended κs) → AllOf (line_read w₀ κs a x end).owes → AllOf (line_read w₀ κs a y end').owes → (x ≡ y) × (end.0.now ≡ end'.0.now)
+pub first_line_unique : (κs : Lfts 2) (a : ArgsD first-line.signature κs) (x y : Reached) (end end' : AtExit first-line.ended κs) → line-reads.Post κs a x end → line-reads.Post κs a y end' → (x ≡ y) × (end.0.now ≡ end'.0.now)
 first_line_unique κs a x y end end' first second =
     same_writer a.0.now first.moves second.moves (listed_unique x y _ _ (first.lists.answers ∙ sym second.lists.answers))

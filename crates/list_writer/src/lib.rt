@@ -1,5 +1,6 @@
 // The line writer: it carries the caller's buffer and the place reached, from line to line.
 #![tactic(auto)]
+
 ghost use Rattle.std.specs.Prelude.{◌≡◌};
 ghost use Rattle.list_writer.specs.Contract.{place_after, RowWritten, LineWritten};
 

@@ -2,12 +2,11 @@
 use mathlib.Core.Path.{◌≡◌, sym, ◌∙◌}
 use Prim.Native.Nat.{ℕ, ◌+◌, ◌-◌, ◌≤◌}
 use native.Mathlib.Decide.{dec_le}
-use native.Mathlib.Omega.{arith}
+use Rattle.std.proofs.Common.{arith}
 use lib.Dec.{leb}
 use borrow.Author.Tests.{le-leb, lt-leb}
 use Rattle.rules_listing.specs.Listing.{ROOM}
-use Rattle.list_lines.proofs.has_room.Statement.{statement}
-use Rattle.list_lines.proofs.has_room.Tie as tie
+use Rattle.list_lines.proofs.has_room.Goals as goal
 
 moved : (at len : ℕ) → ROOM ≤ len → leb at (len - ROOM) ≡ leb (at + ROOM) len
 moved at len most = go (dec_le at (len - ROOM))
@@ -16,11 +15,8 @@ moved at len most = go (dec_le at (len - ROOM))
     go (yes room) = le-leb _ _ room ∙ sym (le-leb (at + ROOM) len (omega arith))
     go (no short) = lt-leb at (len - ROOM) (omega arith) ∙ sym (lt-leb (at + ROOM) len (omega arith))
 
-returns : tie.Need-returns
-returns c = let start : tie.Start = search in sym (lt-leb (start.args.at + ROOM) start.args.len (omega arith))
+pub returns-then-len-lt-ROOM : goal.returns-then-len-lt-ROOM
+returns-then-len-lt-ROOM c = sym (lt-leb (c.args.at + ROOM) c.args.len (omega arith))
 
-returns-2 : tie.Need-returns-2
-returns-2 c = moved _ _ c.if1.false
-
-pub has_room_spec : {M : Type 1} → statement M
-has_room_spec = tie.close (tie.spec returns returns-2)
+pub returns : goal.returns
+returns c = moved _ _ c.if-len-lt-ROOM.false

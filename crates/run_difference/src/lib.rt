@@ -1,7 +1,8 @@
 // The difference of two rows, in a row of its own. It goes only through the columns of a set, outside of which the rows hold 0, and
 // through the constant's, which `set_extremes::first` comes to last.
 #![tactic(auto)]
-ghost use Rattle.run_table.specs.Lists.{lists, at_entry, at_exit};
+
+ghost use Rattle.run_table.specs.Lists.{both, lists, at_entry};
 ghost use Rattle.run_difference.specs.Contract.{Subtractable, Subtracts};
 
 use fraction_reduce::Tested;
@@ -18,8 +19,8 @@ pub fn difference(
     d_nums: &mut [i32],
     d_dens: &mut [i32],
 ) -> Step
-    requires { Subtractable left right set (lists nums dens) (lists d_nums d_dens) }
-    ensures { Subtracts left right set result (at_entry nums dens) (at_entry d_nums d_dens) (at_exit d_nums d_dens) }
+    requires { Subtractable left right set (lists nums dens) (both d_nums.old d_dens.old) }
+    ensures { Subtracts left right set result (at_entry nums dens) (both d_nums.old d_dens.old) (both d_nums.new d_dens.new) }
 {
     let mut rest = set;
     let mut c: usize = 0;

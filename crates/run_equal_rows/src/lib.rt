@@ -1,5 +1,6 @@
 // When two terms have equal rows.
 #![tactic(auto)]
+
 ghost use Rattle.std.specs.Prelude.{◌≡◌, ◌+◌, ◌*◌, ◌<◌, ◌≤◌, false, length};
 ghost use Rattle.fraction.specs.Exact.{eq_ℚ};
 ghost use Rattle.fraction_reduce.specs.Values.{value};

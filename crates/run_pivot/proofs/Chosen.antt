@@ -14,7 +14,7 @@ use Rattle.rules_run.specs.Row.{Row, TERMS, column}
 use Rattle.rules_run.specs.Merge.{pivot}
 use Rattle.rules_run.specs.Run.{by_number}
 use Rattle.laws_invariant.proofs.Pivot.{Pivot, pivot_some, pivot_none}
-use Rattle.run_table.specs.Lists.{Lists, row_in, Unknown, RowWithin}
+use Rattle.run_table.specs.Lists.{Lists, row_in, RowWithin}
 use Rattle.run_table.proofs.Lists.{column_nothing}
 use Rattle.run_pivot.specs.declared.Found.{Found}
 use Rattle.run_pivot.specs.declared.Found.TheVariants.{At, Nothing}

@@ -1,7 +1,7 @@
 -- The highest column of a set that is not 0, found going down.
 -- Main definition: `Seeking`, the loop's invariant. Main results: `seeking_starts`, `seeking_finds`, `seeking_goes_on`, `seeking_ends`. Assume nothing.
-use mathlib.Core.Path.{◌≡◌, refl, sym, ap, ◌∙◌, subst}
-use mathlib.Core.Bool.{true, false}
+use mathlib.Core.Path.{◌≡◌, sym, ap, ◌∙◌, subst}
+use mathlib.Core.Bool.{true}
 use mathlib.Core.List.{List}
 use Prim.Native.Nat.{ℕ, ◌-◌, ◌≤◌, ◌<◌}
 use native.Mathlib.Decide.{ℕ_discrete, dec_lt}

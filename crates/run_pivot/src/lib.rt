@@ -1,5 +1,6 @@
 // The unknown that a difference solves. The search goes only through the columns of a set, outside of which the difference holds 0.
 #![tactic(auto)]
+
 ghost use Rattle.run_table.specs.Lists.{lists, at_entry, RowHeld, RowWithin};
 ghost use Rattle.run_pivot.specs.Contract.{FindsHighest, Pivots};
 

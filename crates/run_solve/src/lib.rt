@@ -1,10 +1,11 @@
 // The form of the unknown that a difference solves, in the difference's place. It goes only through the columns of a set, outside of
 // which the difference holds 0, and through the constant's, which `set_extremes::first` comes to last.
 #![tactic(auto)]
+
 ghost use Rattle.fraction.specs.Exact.{neg_ℚ, inverse};
 ghost use Rattle.fraction.specs.Limits.{times};
 ghost use Rattle.fraction_reduce.specs.Values.{value, Good, Stands, Answers};
-ghost use Rattle.run_table.specs.Lists.{lists, at_entry, at_exit};
+ghost use Rattle.run_table.specs.Lists.{both};
 ghost use Rattle.run_solve.specs.Contract.{Scalable, ScalableRow, ScalesRow, Formable, Forms};
 
 use fraction::Fraction;
@@ -39,8 +40,8 @@ fn scaled(factor: Fraction, x: Fraction) -> Tested
 
 // The columns of a set, and the constant's: each is multiplied by the factor.
 fn scale_columns(d_nums: &mut [i32], d_dens: &mut [i32], factor: Fraction, set: u64) -> Step
-    requires { ScalableRow factor set (lists d_nums d_dens) }
-    ensures { ScalesRow factor set result (at_entry d_nums d_dens) (at_exit d_nums d_dens) }
+    requires { ScalableRow factor set (both d_nums.old d_dens.old) }
+    ensures { ScalesRow factor set result (both d_nums.old d_dens.old) (both d_nums.new d_dens.new) }
 {
     let mut rest = set;
     let mut c: usize = 0;
@@ -62,8 +63,8 @@ fn scale_columns(d_nums: &mut [i32], d_dens: &mut [i32], factor: Fraction, set: 
 // 01, Merge: "every other column is divided by that coefficient and negated". The form takes the difference's place; in the column of
 // the unknown itself it holds 0.
 pub fn solve_for(d_nums: &mut [i32], d_dens: &mut [i32], p: usize, set: u64) -> Step
-    requires { Formable p set (lists d_nums d_dens) }
-    ensures { Forms p set result (at_entry d_nums d_dens) (at_exit d_nums d_dens) }
+    requires { Formable p set (both d_nums.old d_dens.old) }
+    ensures { Forms p set result (both d_nums.old d_dens.old) (both d_nums.new d_dens.new) }
 {
     let factor = factor_of(run_table::get(d_nums, d_dens, p));
     run_table::put(d_nums, d_dens, p, Fraction { num: 0, den: 1 });

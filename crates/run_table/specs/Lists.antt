@@ -1,5 +1,5 @@
 -- Two lists of numerators and denominators, taken together, and a row that stands in them.
--- Main definitions: `Lists`, `lists`, `at_entry`, `at_exit`, `row_in`, `RowHeld`, `RowWithin`, `Unknown`. Assume nothing.
+-- Main definitions: `Lists`, `both`, `lists`, `at_entry`, `row_in`, `RowHeld`, `RowWithin`, `Unknown`. Assume nothing.
 use Rattle.std.specs.Prelude.{◌≡◌, true, List, ℕ, ◌+◌, ◌≤◌, ◌<◌, length, ℤ}
 use Rattle.std.specs.Borrow.{Bor}
 use denote.Triple.Both.{Both}
@@ -12,18 +12,16 @@ pub record Lists : Type 0 where
   pub nums : List ℤ
   pub dens : List ℤ
 
+-- Of two lists that a function writes into, `both nums.old dens.old` is what they hold when it begins, `both nums.new dens.new` when it is over.
 abbrev pub both : (nums dens : List ℤ) → Lists
 both nums dens = record { nums = nums; dens = dens }
 
--- what two parameters of a function hold, and what they hold when it begins and when it is over
+-- what two lists hold that a function only reads, as its requires and as its ensures names them
 abbrev pub lists : (nums dens : Bor (List ℤ)) → Lists
 lists nums dens = both nums.now dens.now
 
 abbrev pub at_entry : (nums dens : Both (Bor (List ℤ)) (Bor (List ℤ))) → Lists
 at_entry nums dens = lists nums.entry dens.entry
-
-abbrev pub at_exit : (nums dens : Both (Bor (List ℤ)) (Bor (List ℤ))) → Lists
-at_exit nums dens = lists nums.exit dens.exit
 
 -- the row whose column 0 stands at place `base`
 abbrev pub row_in : Lists → (base : ℕ) → Row

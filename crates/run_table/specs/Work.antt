@@ -1,5 +1,5 @@
 -- The lists that the run works on, taken together: both lent lists, and the sets; and what holds of them whenever a step is over.
--- Main definitions: `Work`, `lent`, `entered`, `leaving`, `with_sets`, `table_of`, `Rows`, `Serving`, `Resting`. Assume nothing.
+-- Main definitions: `Work`, `work`, `lent`, `entered`, `with_sets`, `table_of`, `Rows`, `Serving`, `Resting`. Assume nothing.
 use Rattle.std.specs.Prelude.{◌≡◌, List, [], ℕ, ◌*◌, ◌≤◌, length, ℤ}
 use Rattle.std.specs.Borrow.{Bor}
 use denote.Triple.Both.{Both}
@@ -14,15 +14,16 @@ pub record Work : Type 0 where
   pub dens : List ℤ
   pub sets : List ℕ
 
--- what a function's parameters hold, and what they hold when it begins and when it is over
+-- Of lists that a function writes into, `work nums.old dens.old sets.old` is what they hold when it begins, and with `.new` when it is over.
+abbrev pub work : (nums dens : List ℤ) (sets : List ℕ) → Work
+work nums dens sets = record { nums = nums; dens = dens; sets = sets }
+
+-- what lists hold that a function only reads, as its requires and as its ensures names them
 abbrev pub lent : (nums dens : Bor (List ℤ)) → (sets : Bor (List ℕ)) → Work
-lent nums dens sets = record { nums = nums.now; dens = dens.now; sets = sets.now }
+lent nums dens sets = work nums.now dens.now sets.now
 
 abbrev pub entered : (nums dens : Both (Bor (List ℤ)) (Bor (List ℤ))) → (sets : Both (Bor (List ℕ)) (Bor (List ℕ))) → Work
 entered nums dens sets = lent nums.entry dens.entry sets.entry
-
-abbrev pub leaving : (nums dens : Both (Bor (List ℤ)) (Bor (List ℤ))) → (sets : Both (Bor (List ℕ)) (Bor (List ℕ))) → Work
-leaving nums dens sets = lent nums.exit dens.exit sets.exit
 
 -- the lists with other sets
 abbrev pub with_sets : Work → (sets : List ℕ) → Work

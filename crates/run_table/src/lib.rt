@@ -1,5 +1,6 @@
 // The table of a run: fractions in two lists of 32-bit numbers, and where the sets of the run stand.
 #![tactic(auto)]
+
 ghost use Rattle.std.specs.Prelude.{◌≡◌, ◌+◌, ◌*◌, ◌<◌, length, set};
 ghost use Rattle.run_table.specs.Held.{held_at};
 

@@ -1,5 +1,6 @@
 // A term or a pair of a problem that was read.
 #![tactic(auto)]
+
 ghost use Rattle.std.specs.Prelude.{◌≡◌};
 ghost use Rattle.fraction.specs.Made.{made};
 ghost use Rattle.rules_problem.specs.Pairs.{pair_there};

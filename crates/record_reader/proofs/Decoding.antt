@@ -1,13 +1,13 @@
 -- What reading a byte string answers, test by test, each from what is known where the code comes to it.
 -- Main results: `answers_short`, `answers_no_term`, `answers_many_terms`, `answers_many_pairs`, `answers_length`, `answers_term`, `answers_goal`, `answers_pair`, `answers_sound`. Assume nothing.
 use mathlib.Core.Path.{◌≡◌, refl, sym, ◌∙◌}
-use mathlib.Core.Bool.{Bool, true, false, not, ◌&&◌}
+use mathlib.Core.Bool.{Bool, true, false, ◌&&◌}
 use mathlib.Core.List.{List}
 use mathlib.Core.Option.{Option, some, none}
 use Prim.Native.Nat.{ℕ, ◌+◌, ◌-◌, ◌*◌, ◌≤◌, ◌<◌}
 use native.Mathlib.Nat.{zero-add}
 use native.Mathlib.Omega.{arith}
-use borrow.Author.Tests.{lt-leb, le-leb, eq-eqb, ne_eqb, not-true, not-false}
+use borrow.Author.Tests.{lt-leb, le-leb, eq-eqb, ne_eqb}
 use lib.Dec.{leb}
 use lib.ListN.{length}
 use Rattle.answer.specs.Refusals.{Refusal, SHORT, COUNT, LENGTH, TERM, PAIR}
@@ -127,13 +127,13 @@ module _ {bytes : List ℕ} {h : Header} (framed : Framed bytes h) {t : ℕ} (te
     terms = tab_made (term_at bytes) h.n 0 (λ k below. term_made bytes (0 + k) (terms-first.passed.each (0 + k) (omega arith) (omega arith)))
 
     -- 6 PAIR, the goal
-    pub answers_goal : {r : Read} → not both ≡ true → r ≡ Refused 6 0 → r ≡ read_of bytes
+    pub answers_goal : {r : Read} → both ≡ false → r ≡ Refused 6 0 → r ≡ read_of bytes
     unfolding read_of read_as body ◌>>=◌ refuse PAIR
-    answers_goal beyond e = e ∙ sym (rw (decoded_body, terms.1, pair_stopped bytes h.n 0 16 (sym tested ∙ not-true _ beyond)))
+    answers_goal beyond e = e ∙ sym (rw (decoded_body, terms.1, pair_stopped bytes h.n 0 16 (sym tested ∙ beyond)))
 
-    module _ (below : not both ≡ false) {k : ℕ} (first : First 1 (h.m + 1) (sound_pair bytes h.n) k) where
+    module _ (below : both ≡ true) {k : ℕ} (first : First 1 (h.m + 1) (sound_pair bytes h.n) k) where
       goal : sides_below bytes h.n 16 ≡ true
-      goal = sym tested ∙ not-false _ below
+      goal = sym tested ∙ below
 
       pair : ℕ → Made Refusal Pair
       pair k = pair_at bytes h.n k (32 + 64 * h.n + 16 * (k - 1))

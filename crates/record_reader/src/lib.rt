@@ -1,5 +1,6 @@
 // The reader: from a byte string to the problem that it holds, or to the refusal that it gets.
 #![tactic(auto)]
+
 ghost use Rattle.std.specs.Prelude.{◌≡◌, ◌≤◌, length};
 ghost use Rattle.record_reader.specs.Contract.{HeaderRead, Framed};
 ghost use Rattle.record_reader.specs.Reads.{read_of};

@@ -3,8 +3,8 @@
 use Rattle.record_items.proofs.Holding.{record_held, term_answered}
 use Rattle.record_items.proofs.term_at.Goals as goal
 
-pub held_term-requires : goal.held_term-requires
-held_term-requires c = search record_held
-
 pub returns : goal.returns
 returns c = search term_answered
+
+pub held_term-requires : goal.held_term-requires
+held_term-requires c = search record_held

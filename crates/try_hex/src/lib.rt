@@ -1,5 +1,6 @@
 // Lines of hexadecimal digits: the bytes that a line says, and where it ends.
 #![tactic(auto)]
+
 ghost use Rattle.std.specs.Prelude.{◌≡◌, drop};
 ghost use Rattle.try_hex.specs.Digits.{digit_of, byte_of, first_of, BytesRead};
 ghost use Rattle.try_hex.specs.Lines.{LineEnds};

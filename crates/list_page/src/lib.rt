@@ -1,5 +1,6 @@
 // The whole listing of a decided problem, written into a lent buffer: the first line, then the rows; or a refusal, and nothing is written.
 #![tactic(auto)]
+
 ghost use Rattle.std.specs.Prelude.{◌≡◌, ◌+◌, ◌*◌, leb};
 ghost use Rattle.rules_problem.specs.Bits.{field};
 ghost use Rattle.rules_listing.specs.Listing.{ROOM};

@@ -3,7 +3,7 @@ use Prim.Native.Nat.{◌≤◌, ◌-◌}
 use Rattle.try_operations.proofs.main.Given as goal
 
 abbrev pub invariant-loop-i : goal.invariant-loop-i
-invariant-loop-i g l = l.i ≤ 24
+invariant-loop-i l = l.i ≤ 24
 
 abbrev pub decreases-loop-i : goal.decreases-loop-i
-decreases-loop-i g l = 24 - l.i
+decreases-loop-i l = 24 - l.i

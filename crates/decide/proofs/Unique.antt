@@ -10,7 +10,7 @@ use Rattle.unique.specs.Twice.{Twice}
 use Rattle.answer.specs.declared.Answer.{Answer}
 use Rattle.rules_run.specs.Run.{highest_number}
 use Rattle.rules_outcome.specs.Outcome.{Lent, outcome}
-use Rattle.run_finish.specs.Lent.{lending, comes_back}
+use Rattle.run_finish.specs.Lent.{lent_of, comes_back}
 use Rattle.run_finish.proofs.Unique.{comes_back_one}
 use Rattle.decide.specs.Decided.{Decided}
 use Rattle.decide.proofs.decide.Kinds.{ps, r}
@@ -25,5 +25,5 @@ pub decide_unique : Twice ps r Post λ κs a x y end end'. (x ≡ y) × (end.1.0
 decide_unique κs a x y end end' first second = decided_one first second
 
 -- Demand 1 of the contract itself: for every byte string and all lists lent, what satisfies it is the outcome of the rules.
-pub decide_lays_down : (κs : Lfts 3) (a : Dens κs ps) (x : Answer) (end : AtExit (ended_of 3 ps r) κs) → Post κs a x end → outcome highest_number a.0.now (lending a.1.0 a.1.1.0) ≡ comes_back x (lending end.1.0 end.1.1.0)
+pub decide_lays_down : (κs : Lfts 3) (a : Dens κs ps) (x : Answer) (end : AtExit (ended_of 3 ps r) κs) → Post κs a x end → outcome highest_number a.0.now (lent_of a.1.0.now a.1.1.0.now) ≡ comes_back x (lent_of end.1.0.now end.1.1.0.now)
 decide_lays_down κs a x end promised = promised.rules

@@ -1,8 +1,8 @@
 // The decider: bytes and two lent lists in, the answer out, for every byte string and every length of either list.
 #![tactic(auto)]
-ghost use Rattle.run_table.specs.Work.{entered, leaving};
-ghost use Rattle.run_build.specs.Store.{lent_all};
-ghost use Rattle.run_finish.specs.Lent.{lending, lent_at, left_at, comes_back};
+ghost use Rattle.run_table.specs.Work.{work, lent};
+ghost use Rattle.run_build.specs.Store.{store};
+ghost use Rattle.run_finish.specs.Lent.{comes_back, lent_of};
 ghost use Rattle.decide.specs.Contract.{Runnable, Runs, ReadSound, Decides};
 ghost use Rattle.decide.specs.Decided.{Decided};
 
@@ -23,8 +23,8 @@ fn run_all(
     inputs: &mut [u8],
     sets: &mut [u64],
 ) -> Ran
-    requires { Runnable bytes.now n m (lent_all nums dens heads inputs sets) }
-    ensures { Runs bytes.now n result (entered nums dens sets) (leaving nums dens sets) }
+    requires { Runnable bytes.now n m (store nums.old dens.old heads.old inputs.old sets.old) }
+    ensures { Runs bytes.now n result (work nums.old dens.old sets.old) (work nums.new dens.new sets.new) }
 {
     match run_begin::begin(bytes, n, nums, dens, heads, inputs, sets) {
         Ran::Going(solved) => run_assume::assume_all(
@@ -36,8 +36,8 @@ fn run_all(
 
 // A problem that was read: the run, and the lists as it leaves them.
 fn decide_sound(bytes: &[u8], header: Header, nums: &mut [i32], dens: &mut [i32]) -> Answer
-    requires { ReadSound bytes.now header (lending nums dens) }
-    ensures { Decides bytes.now result (lent_at nums dens) (left_at nums dens) }
+    requires { ReadSound bytes.now header (lent_of nums.old dens.old) }
+    ensures { Decides bytes.now result (lent_of nums.old dens.old) (lent_of nums.new dens.new) }
 {
     let n = header.n;
     let mut heads = [0u16; TERMS];
@@ -69,7 +69,7 @@ fn decide_sound(bytes: &[u8], header: Header, nums: &mut [i32], dens: &mut [i32]
 // Decides one problem. The numerators and denominators of the finished table, or zeros, are left in the two lists, which are
 // unchanged where the problem is refused with 1 to 6.
 pub fn decide(bytes: &[u8], nums: &mut [i32], dens: &mut [i32]) -> Answer
-    ensures { Decided bytes.now (lent_at nums dens) (comes_back result (left_at nums dens)) }
+    ensures { Decided bytes.now (lent_of nums.old dens.old) (comes_back result (lent_of nums.new dens.new)) }
 {
     if nums.len() < PLACES {
         return Answer::Refused {

@@ -1,8 +1,6 @@
 -- What the exported functions promise.
 -- Main definitions: `Handed`, `RowHanded`. Assumes nothing.
 use Rattle.std.specs.Prelude.{◌≡◌, List, ℕ, ℤ}
-use Rattle.std.specs.Borrow.{Bor}
-use denote.Triple.Both.{Both}
 use Rattle.answer.specs.declared.Answer.{Answer}
 use Rattle.run_finish.specs.Lent.{lent_of, comes_back}
 use Rattle.decide.specs.Decided.{Decided}
@@ -11,16 +9,9 @@ use Rattle.list_lines.specs.Contract.{place_of, number_of, ListsRow}
 use Rattle.answer_numbers.specs.declared.Numbers.{Numbers}
 use Rattle.answer_numbers.specs.Numbers.{numbers_of}
 
--- what a parameter holds when a function begins, and when it is over
-abbrev pub start : {X : Type 0} → Both (Bor X) (Bor X) → X
-start x = x.entry.now
-
-abbrev pub last : {X : Type 0} → Both (Bor X) (Bor X) → X
-last x = x.exit.now
-
 -- the numbers that are handed back: the word answered, and the two numbers behind the references
-abbrev pub handed : (word : ℕ) → (number figure : Both (Bor ℕ) (Bor ℕ)) → Numbers
-handed word number figure = record { word = word; number = last number; figure = last figure }
+abbrev pub handed : (word number figure : ℕ) → Numbers
+handed word number figure = record { word = word; number = number; figure = figure }
 
 -- What is handed back are the numbers of an answer that `decide` promises, with both lists as it leaves them.
 pub record Handed (bytes : List ℕ) (nums dens nums' dens' : List ℤ) (numbers : Numbers) : Type 0 where

@@ -1,6 +1,6 @@
 // The decider and the listing for programs in C or Rust: numbers and slices only.
 #![tactic(auto)]
-ghost use Rattle.export.specs.Contract.{start, last, handed, Handed, RowHanded};
+ghost use Rattle.export.specs.Contract.{handed, Handed, RowHanded};
 
 use answer_numbers::in_numbers;
 use list_lines::Reached;
@@ -14,7 +14,7 @@ pub extern "C" fn hamzulaph_decide(
     number: &mut u8,
     figure: &mut usize,
 ) -> u8
-    ensures { Handed (start bytes) (start nums) (start dens) (last nums) (last dens) (handed result number figure) }
+    ensures { Handed bytes.now nums.old dens.old nums.new dens.new (handed result number.new figure.new) }
 {
     let answer = decide::decide(bytes, nums, dens);
     let t = in_numbers(answer);
@@ -35,7 +35,7 @@ pub extern "C" fn hamzulaph_list_row(
     t: usize,
     number: &mut u8,
 ) -> usize
-    ensures { RowHanded (start nums) (start dens) t at (start buf) (last buf) result (last number) }
+    ensures { RowHanded nums.now dens.now t at buf.old buf.new result number.new }
 {
     let reached = list_lines::list_row_at(buf, at, nums, dens, t);
     match reached {

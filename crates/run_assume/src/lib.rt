@@ -1,6 +1,6 @@
 // Step 3 of the run: each assumption in file order.
 #![tactic(auto)]
-ghost use Rattle.run_table.specs.Work.{lent, entered, leaving};
+ghost use Rattle.run_table.specs.Work.{work};
 ghost use Rattle.run_assume.specs.Contract.{Assumable, Assumes, AllAssumable, AssumesAll};
 
 use answer::Answer;
@@ -23,8 +23,8 @@ fn assume_one(
     right: usize,
     solved: usize,
 ) -> Ran
-    requires { Assumable n left right solved heads.now inputs.now (lent nums dens sets) }
-    ensures { Assumes n place left right solved heads.now inputs.now result (entered nums dens sets) (leaving nums dens sets) }
+    requires { Assumable n left right solved heads.now inputs.now (work nums.old dens.old sets.old) }
+    ensures { Assumes n place left right solved heads.now inputs.now result (work nums.old dens.old sets.old) (work nums.new dens.new sets.new) }
 {
     match run_merge::merge(nums, dens, n, left, right, sets, NONE) {
         Merged::Nothing => run_progress::placed(
@@ -57,8 +57,8 @@ pub fn assume_all(
     sets: &mut [u64],
     solved: usize,
 ) -> Ran
-    requires { AllAssumable bytes.now n m solved heads.now inputs.now (lent nums dens sets) }
-    ensures { AssumesAll bytes.now n solved result (entered nums dens sets) (leaving nums dens sets) }
+    requires { AllAssumable bytes.now n m solved heads.now inputs.now (work nums.old dens.old sets.old) }
+    ensures { AssumesAll bytes.now n solved result (work nums.old dens.old sets.old) (work nums.new dens.new sets.new) }
 {
     let mut count = solved;
     let mut k: usize = 1;

@@ -13,7 +13,7 @@ use Rattle.run_table.specs.Work.{table_of}
 use Rattle.run_table.proofs.Determined.{table_determined, lists_determined}
 use Rattle.run_table.proofs.SameEnd.{kept_alike}
 use Rattle.run_table.proofs.Unique.{calls_determined}
-use Rattle.run_build.specs.Store.{Store, lent_all}
+use Rattle.run_build.specs.Store.{Store, store}
 use Rattle.run_build.proofs.Unique.{notes_alike}
 use Rattle.run_progress.specs.declared.Ran.{Ran}
 use Rattle.run_progress.specs.declared.Ran.TheVariants.{Going}
@@ -69,5 +69,5 @@ module _ {bytes : List ℕ} {n : ℕ} {x y : Ran} {old new new' : Store} (held :
 -- place but those of the n terms, which may hold anything: nothing reads them but what clears them. (The sets are hints, of which any
 -- larger ones serve as well.) Said of the contract itself: of what the toolchain reads from it.
 pub begin_unique : TwiceAsked ps r Pre Post λ κs (bytes, (n, _)) x y (_, (_, (nums, (dens, (heads, (inputs, (sets, _))))))) (_, (_, (nums', (dens', (heads', (inputs', (sets', _))))))).
-    SameBegin n x y (lent_all nums dens heads inputs sets) (lent_all nums' dens' heads' inputs' sets')
+    SameBegin n x y (store nums.now dens.now heads.now inputs.now sets.now) (store nums'.now dens'.now heads'.now inputs'.now sets'.now)
 begin_unique κs a x y end end' asked first second = begins_same asked.held first second

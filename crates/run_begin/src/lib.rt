@@ -1,7 +1,7 @@
 // Steps 1 and 2 of the run: the rows are built, and closed.
 #![tactic(auto)]
 ghost use Rattle.run_build.specs.Contract.{Beginnable};
-ghost use Rattle.run_build.specs.Store.{lent_all, entered_all, leaving_all};
+ghost use Rattle.run_build.specs.Store.{store};
 ghost use Rattle.run_begin.specs.Contract.{Begins};
 
 use answer::Answer;
@@ -22,8 +22,8 @@ pub fn begin(
     inputs: &mut [u8],
     sets: &mut [u64],
 ) -> Ran
-    requires { Beginnable bytes.now n (lent_all nums dens heads inputs sets) }
-    ensures { Begins bytes.now n result (entered_all nums dens heads inputs sets) (leaving_all nums dens heads inputs sets) }
+    requires { Beginnable bytes.now n (store nums.old dens.old heads.old inputs.old sets.old) }
+    ensures { Begins bytes.now n result (store nums.old dens.old heads.old inputs.old sets.old) (store nums.new dens.new heads.new inputs.new sets.new) }
 {
     match run_build::build(bytes, n, nums, dens, heads, inputs, sets) {
         Step::Done => run_progress::placed(

@@ -16,7 +16,7 @@ use Rattle.run_table.proofs.Determined.{step_determined, done_determined, table_
 use Rattle.run_table.proofs.SameEnd.{SameEnd, kept_alike}
 use Rattle.run_table.proofs.Unique.{calls_determined}
 use Rattle.run_build.specs.Contract.{Builds}
-use Rattle.run_build.specs.Store.{Store, lent_all}
+use Rattle.run_build.specs.Store.{Store, store}
 use Rattle.run_build.proofs.build.Kinds.{ps, r}
 use Rattle.run_build.proofs.build.Reads.{Pre, Post}
 
@@ -61,5 +61,5 @@ builds_same {n = n} {x} {y} {new = new} {new'} held first second =
 -- place but those of the n terms, which may hold anything: the run ends there, and nothing reads them but what clears them. (The sets are
 -- hints: larger ones would give the same run, more slowly.) Said of the contract itself: of what the toolchain reads from it.
 pub build_unique : TwiceAsked ps r Pre Post λ κs (bytes, (n, _)) x y (_, (_, (nums, (dens, (heads, (inputs, (sets, _))))))) (_, (_, (nums', (dens', (heads', (inputs', (sets', _))))))).
-    SameBuild n x y (lent_all nums dens heads inputs sets) (lent_all nums' dens' heads' inputs' sets')
+    SameBuild n x y (store nums.now dens.now heads.now inputs.now sets.now) (store nums'.now dens'.now heads'.now inputs'.now sets'.now)
 build_unique κs a x y end end' asked first second = builds_same asked.held first second

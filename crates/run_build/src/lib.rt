@@ -4,7 +4,7 @@ mod call;
 mod links;
 
 ghost use Rattle.run_build.specs.Contract.{Beginnable, Builds};
-ghost use Rattle.run_build.specs.Store.{lent_all, entered_all, leaving_all};
+ghost use Rattle.run_build.specs.Store.{store};
 
 use crate::call::note_call;
 use crate::links::note_links;
@@ -23,8 +23,8 @@ pub fn build(
     inputs: &mut [u8],
     sets: &mut [u64],
 ) -> Step
-    requires { Beginnable bytes.now n (lent_all nums dens heads inputs sets) }
-    ensures { Builds bytes.now n result (entered_all nums dens heads inputs sets) (leaving_all nums dens heads inputs sets) }
+    requires { Beginnable bytes.now n (store nums.old dens.old heads.old inputs.old sets.old) }
+    ensures { Builds bytes.now n result (store nums.old dens.old heads.old inputs.old sets.old) (store nums.new dens.new heads.new inputs.new sets.new) }
 {
     let mut t: usize = 0;
     while t < n {

@@ -2,7 +2,7 @@
 #![tactic(auto)]
 mod wake;
 
-ghost use Rattle.run_table.specs.Work.{lent, entered, leaving};
+ghost use Rattle.run_table.specs.Work.{work};
 ghost use Rattle.run_close.specs.Contract.{Closable, Closes};
 
 use crate::wake::wake;
@@ -31,8 +31,8 @@ pub fn close(
     sets: &mut [u64],
     solved: usize,
 ) -> AfterClosing
-    requires { Closable n solved heads.now inputs.now (lent nums dens sets) }
-    ensures { Closes n solved heads.now inputs.now result (entered nums dens sets) (leaving nums dens sets) }
+    requires { Closable n solved heads.now inputs.now (work nums.old dens.old sets.old) }
+    ensures { Closes n solved heads.now inputs.now result (work nums.old dens.old sets.old) (work nums.new dens.new sets.new) }
 {
     if sets[PENDING] == 0 {
         return AfterClosing::Going(solved);

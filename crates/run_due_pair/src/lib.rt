@@ -10,6 +10,7 @@
 //
 // What each set has to hold for that stands where the sets are declared: `Serving`, in the specs of `run_table`.
 #![tactic(auto)]
+
 ghost use Rattle.std.specs.Prelude.{◌≡◌, ◌<◌, ◌≤◌, length};
 ghost use Rattle.rules_run.specs.Row.{TERMS};
 ghost use Rattle.run_table.specs.Sets.{SETS, RIGHTS};

@@ -1,23 +1,12 @@
 -- The lent lists of a function in code, as the rules speak of them.
--- Main definitions: `lent_of`, `lending`, `lent_at`, `left_at`, `comes_back`. Assume nothing.
+-- Main definitions: `lent_of`, `comes_back`. Assume nothing.
 use Rattle.std.specs.Prelude.{List, ℤ}
-use Rattle.std.specs.Borrow.{Bor}
-use denote.Triple.Both.{Both}
 use Rattle.answer.specs.declared.Answer.{Answer}
 use Rattle.rules_outcome.specs.Outcome.{Lent, Outcome}
 
+-- Of lists that a function writes into, `lent_of nums.old dens.old` is what they hold when it begins, `lent_of nums.new dens.new` when it is over.
 abbrev pub lent_of : (numerators denominators : List ℤ) → Lent
 lent_of numerators denominators = record { numerators = numerators; denominators = denominators }
-
--- what two parameters hold, and what they hold when the function begins and when it is over
-abbrev pub lending : (nums dens : Bor (List ℤ)) → Lent
-lending nums dens = lent_of nums.now dens.now
-
-abbrev pub lent_at : (nums dens : Both (Bor (List ℤ)) (Bor (List ℤ))) → Lent
-lent_at nums dens = lending nums.entry dens.entry
-
-abbrev pub left_at : (nums dens : Both (Bor (List ℤ)) (Bor (List ℤ))) → Lent
-left_at nums dens = lending nums.exit dens.exit
 
 -- the answer, and the lists that are left with it
 abbrev pub comes_back : Answer → Lent → Outcome

@@ -1,11 +1,12 @@
 // The end of a run: both lists are left as the rules say, and the answer is given.
 #![tactic(auto)]
+
 ghost use Rattle.std.specs.Prelude.{◌*◌, pos};
 ghost use Rattle.rules_outcome.specs.Outcome.{Long};
 ghost use Rattle.rules_run.specs.Row as rule;
 ghost use Rattle.run_fill.specs.Contract.{Filled};
-ghost use Rattle.run_table.specs.Work.{lent, entered};
-ghost use Rattle.run_finish.specs.Lent.{lending, lent_at, left_at};
+ghost use Rattle.run_table.specs.Work.{work};
+ghost use Rattle.run_finish.specs.Lent.{lent_of};
 ghost use Rattle.run_finish.specs.Contract.{Roomy, Finishable, Finishes, Clears};
 
 use answer::Answer;
@@ -33,8 +34,8 @@ pub fn with_rows(
     sets: &[u64],
     solved: usize,
 ) -> Answer
-    requires { Finishable n left right (lent nums dens sets) }
-    ensures { Finishes n left right solved result (entered nums dens sets) (left_at nums dens) }
+    requires { Finishable n left right (work nums.old dens.old sets.now) }
+    ensures { Finishes n left right solved result (work nums.old dens.old sets.now) (lent_of nums.new dens.new) }
 {
     let same = run_equal_rows::same_row(nums, dens, n, sets, left, right);
     run_fill::fill(nums, COLUMNS * n, PLACES, 0);
@@ -47,8 +48,8 @@ pub fn with_rows(
 
 // A run that stopped: every place becomes 0.
 pub fn cleared(nums: &mut [i32], dens: &mut [i32], answer: Answer) -> Answer
-    requires { Long (lending nums dens) }
-    ensures { Clears answer result (lent_at nums dens) (left_at nums dens) }
+    requires { Long (lent_of nums.old dens.old) }
+    ensures { Clears answer result (lent_of nums.old dens.old) (lent_of nums.new dens.new) }
 {
     run_fill::fill(nums, 0, PLACES, 0);
     run_fill::fill(dens, 0, PLACES, 0);

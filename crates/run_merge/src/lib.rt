@@ -1,7 +1,7 @@
 // Merging two terms: the difference of their rows, the unknown that it solves, and the fold into every row.
 #![tactic(auto)]
-ghost use Rattle.run_table.specs.Lists.{lists, at_entry, row_in};
-ghost use Rattle.run_table.specs.Work.{lent, entered, leaving};
+ghost use Rattle.run_table.specs.Lists.{row_in, both};
+ghost use Rattle.run_table.specs.Work.{work};
 ghost use Rattle.run_merge.specs.Contract.{Mergeable, Settleable, Solvable, Solves, Settles, Merges};
 
 use rules_problem::{COLUMNS, TERMS};
@@ -32,8 +32,8 @@ fn solve(
     d_dens: &mut [i32],
     sets: &mut [u64],
 ) -> Merged
-    requires { Solvable n p set (lists d_nums d_dens) (lent nums dens sets) }
-    ensures { Solves n p (row_in (at_entry d_nums d_dens) 0) result (entered nums dens sets) (leaving nums dens sets) }
+    requires { Solvable n p set (both d_nums.old d_dens.old) (work nums.old dens.old sets.old) }
+    ensures { Solves n p (row_in (both d_nums.old d_dens.old) 0) result (work nums.old dens.old sets.old) (work nums.new dens.new sets.new) }
 {
     match run_solve::solve_for(d_nums, d_dens, p, set) {
         Step::Done => match run_fold::fold_rows(nums, dens, n, p, set, d_nums, d_dens, sets) {
@@ -55,8 +55,8 @@ fn settle(
     sets: &mut [u64],
     preferred: u64,
 ) -> Merged
-    requires { Settleable n set (lists d_nums d_dens) (lent nums dens sets) }
-    ensures { Settles n preferred (row_in (at_entry d_nums d_dens) 0) result (entered nums dens sets) (leaving nums dens sets) }
+    requires { Settleable n set (both d_nums.old d_dens.old) (work nums.old dens.old sets.old) }
+    ensures { Settles n preferred (row_in (both d_nums.old d_dens.old) 0) result (work nums.old dens.old sets.old) (work nums.new dens.new sets.new) }
 {
     match run_pivot::pivot(d_nums, d_dens, set, preferred) {
         Found::At(p) => solve(nums, dens, n, p, set, d_nums, d_dens, sets),
@@ -81,8 +81,8 @@ pub fn merge(
     sets: &mut [u64],
     preferred: u64,
 ) -> Merged
-    requires { Mergeable n t u (lent nums dens sets) }
-    ensures { Merges n t u preferred result (entered nums dens sets) (leaving nums dens sets) }
+    requires { Mergeable n t u (work nums.old dens.old sets.old) }
+    ensures { Merges n t u preferred result (work nums.old dens.old sets.old) (work nums.new dens.new sets.new) }
 {
     let set = set_members::union(sets[t], sets[u]);
     let mut d_nums = [0i32; COLUMNS];

@@ -1,5 +1,6 @@
 // The decider: bytes and two lent lists in, the answer out, for every byte string and every length of either list.
 #![tactic(auto)]
+
 ghost use Rattle.run_table.specs.Work.{work, lent};
 ghost use Rattle.run_build.specs.Store.{store};
 ghost use Rattle.run_finish.specs.Lent.{comes_back, lent_of};

@@ -1,5 +1,6 @@
 // The decider and the listing for programs in C or Rust: numbers and slices only.
 #![tactic(auto)]
+
 ghost use Rattle.export.specs.Contract.{handed, Handed, RowHanded};
 
 use answer_numbers::in_numbers;

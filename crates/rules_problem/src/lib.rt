@@ -1,5 +1,6 @@
 // The terms of a problem, and the sizes of its table.
 #![tactic(auto)]
+
 use fraction::Scaled;
 
 // 01, The problem record: the most terms, and the most pairs.

@@ -1,5 +1,6 @@
 // Step 3 of the run: each assumption in file order.
 #![tactic(auto)]
+
 ghost use Rattle.run_table.specs.Work.{work};
 ghost use Rattle.run_assume.specs.Contract.{Assumable, Assumes, AllAssumable, AssumesAll};
 

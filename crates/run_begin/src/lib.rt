@@ -1,5 +1,6 @@
 // Steps 1 and 2 of the run: the rows are built, and closed.
 #![tactic(auto)]
+
 ghost use Rattle.run_build.specs.Contract.{Beginnable};
 ghost use Rattle.run_build.specs.Store.{store};
 ghost use Rattle.run_begin.specs.Contract.{Begins};

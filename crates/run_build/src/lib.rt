@@ -1,5 +1,6 @@
 // Step 1 of the run: the rows of the terms, built in rising order, and the lookups as numbers, with their links.
 #![tactic(auto)]
+
 mod call;
 mod links;
 

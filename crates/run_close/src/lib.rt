@@ -1,5 +1,6 @@
 // Closing the table under congruence.
 #![tactic(auto)]
+
 mod wake;
 
 ghost use Rattle.run_table.specs.Work.{work};

@@ -1,5 +1,6 @@
 // How far the run has come: it goes on, or has ended with an answer.
 #![tactic(auto)]
+
 ghost use Rattle.run_close.specs.Outcome.{Counted};
 ghost use Rattle.run_progress.specs.Ran.{Places};
 

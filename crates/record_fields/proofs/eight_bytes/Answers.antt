@@ -22,10 +22,6 @@ one_more {bytes} {first} {number} {count} joined below small =
 room : (number count : ℕ) → number < 256 ^ count → count < 8 → number < 256 ^ 7
 room number count h few = lt_of_lt_of_le h (pow-le-pow_right (omega arith) {j = 7} (omega arith))
 
--- the byte that comes next
-next_byte : (c : goal.After-shared_slice_known-1) → get_or c.args.bytes.now (c.args.first + c.loop-count.count) 0 < 256
-next_byte c = (c.shared_slice_known-1.given (c.args.first + c.loop-count.count)).fits
-
 pub loop-count-init : goal.loop-count-init
 unfolding number_at
 loop-count-init c = record { few = omega arith; is = refl; small = omega arith }
@@ -34,14 +30,14 @@ pub overflow_mul-number : goal.overflow_mul-number
 overflow_mul-number c = omega (arith, room c.loop-count.number c.loop-count.count c.loop-count.invariant.small c.loop-count-test.true)
 
 pub overflow_cast-number : goal.overflow_cast-number
-overflow_cast-number c = omega (arith, next_byte c)
+overflow_cast-number c = omega (arith, c.type_inv.bytes (c.args.first + c.loop-count.count))
 
 pub overflow_add-number-in-loop-count : goal.overflow_add-number-in-loop-count
 overflow_add-number-in-loop-count c = let l = c.loop-count in
-    omega (arith, room l.number l.count l.invariant.small c.loop-count-test.true, next_byte c)
+    omega (arith, room l.number l.count l.invariant.small c.loop-count-test.true, c.type_inv.bytes (c.args.first + c.loop-count.count))
 
 pub loop-count-preserved : goal.loop-count-preserved
-loop-count-preserved c = one_more c.loop-count.invariant c.loop-count-test.true (next_byte c)
+loop-count-preserved c = one_more c.loop-count.invariant c.loop-count-test.true (c.type_inv.bytes (c.args.first + c.loop-count.count)).fits
 
 pub returns : goal.returns
 returns c = let all : c.loop-count.count ≡ 8 = omega arith in

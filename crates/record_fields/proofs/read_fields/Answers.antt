@@ -9,4 +9,4 @@ pub overflow_cast-result : goal.overflow_cast-result
 overflow_cast-result c = record { fits = lt_of_lt_of_le c.cut-kind.ensures.small (lit≤ tt) }
 
 pub returns : goal.returns
-returns c = fields_cut _ _ (λ i. (c.shared_slice_known-1.given i).fits) c.eight_bytes-bits.ensures c.cut-kind.ensures c.cut-symbol.ensures c.cut-input1.ensures c.cut-input2.ensures c.cut-input3.ensures c.cut-mantissa.ensures c.cut-shift.ensures c.cut-padding.ensures
+returns c = fields_cut _ _ (λ i. (c.type_inv.bytes i).fits) c.eight_bytes-bits.ensures c.cut-kind.ensures c.cut-symbol.ensures c.cut-input1.ensures c.cut-input2.ensures c.cut-input3.ensures c.cut-mantissa.ensures c.cut-shift.ensures c.cut-padding.ensures

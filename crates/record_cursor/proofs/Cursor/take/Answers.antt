@@ -28,5 +28,5 @@ returns c = let a = c.args in
     let width = a.width in
     let within : a.self.at + width ≤ 8 * length bytes = omega arith in
     let three : field bytes a.self.at width ≡ number_at bytes (a.self.at / 8) 3 / 2 ^ (24 - (a.self.at % 8 + width)) % 2 ^ width =
-    field_window bytes (λ i. (c.shared_slice_known-1.given i).fits) a.self.at width _ (omega arith) in
+    field_window bytes (λ i. (c.type_inv.bytes i).fits) a.self.at width _ (omega arith) in
     rw (le-leb _ _ within, c.window.ensures, power_made 32 width (omega arith), three)

@@ -1,6 +1,7 @@
 //! Links the archive of the proved library: `libexport.a` in the folder named by
-//! `HAMZULAPH_STATICLIB`, or in `target/staticlib` of the repository. It is compiled for x86-64;
-//! for another processor the toolchain makes programs of it, with `server.c` and with `counted.c`.
+//! `HAMZULAPH_STATICLIB`, or in `crates/export/out`, where `rt lib` leaves it. It is compiled for
+//! x86-64; for another processor the toolchain makes programs of it, with `server.c` and with
+//! `counted.c`.
 
 use std::env;
 use std::path::{Path, PathBuf};
@@ -14,7 +15,7 @@ fn main() {
     println!("cargo:rerun-if-env-changed={VARIABLE}");
     println!("cargo:rerun-if-changed={}", archive.display());
     if !archive.exists() {
-        panic!("there is no {}: run 'rt staticlib export'", archive.display());
+        panic!("there is no {}: run 'rt lib' in crates/export", archive.display());
     }
     if env::var("CARGO_CFG_TARGET_ARCH").is_ok_and(|processor| processor == "x86_64") {
         println!("cargo:rustc-link-search=native={}", folder.display());
@@ -27,7 +28,7 @@ fn main() {
 fn folder() -> PathBuf {
     match env::var_os(VARIABLE) {
         Some(folder) => PathBuf::from(folder),
-        None => PathBuf::from(env!("CARGO_MANIFEST_DIR")).join("../../target/staticlib"),
+        None => PathBuf::from(env!("CARGO_MANIFEST_DIR")).join("../../crates/export/out"),
     }
 }
 

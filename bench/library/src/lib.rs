@@ -1,8 +1,8 @@
 //! The proved library's C functions as Rust functions.
 //!
-//! `rt staticlib export` writes the archive that has them. What the numbers
-//! mean is said in `crates/export`. The archive is for x86-64 and is linked
-//! there; elsewhere a process of its own serves it.
+//! `rt lib` in `crates/export` writes the archive that has them; what the numbers
+//! mean is said in that crate. The archive is for x86-64 and is linked on it;
+//! elsewhere a process of its own serves it.
 
 #![warn(missing_docs)]
 

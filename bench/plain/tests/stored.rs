@@ -1,4 +1,4 @@
-//! What the program crate `run_cases` is run on and held to is what the
+//! What the program crate `try_problems` is run on and held to is what the
 //! programs `run_cases` and `families` here print, one after the other.
 
 use std::path::Path;
@@ -12,7 +12,7 @@ fn printed(program: &str, what: &str) -> Vec<u8> {
 
 fn stored(what: &str) -> Vec<u8> {
     let crates = Path::new(env!("CARGO_MANIFEST_DIR")).join("../../crates");
-    std::fs::read(crates.join("run_cases").join(what)).unwrap()
+    std::fs::read(crates.join("try_problems").join(what)).unwrap()
 }
 
 #[test]

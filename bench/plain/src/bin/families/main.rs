@@ -1,4 +1,4 @@
-//! The second part of what the program `run_cases` reads, and of what it has
+//! The second part of what the program `try_problems` reads, and of what it has
 //! to write: `families stdin` and `families stdout`.
 //!
 //! A line that begins with `#` is a remark, and is written as it stands. A

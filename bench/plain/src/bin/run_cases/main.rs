@@ -1,4 +1,4 @@
-//! The first part of what the program `run_cases` reads, and of what it has
+//! The first part of what the program `try_problems` reads, and of what it has
 //! to write: `run_cases stdin` and `run_cases stdout`.
 //!
 //! A line that begins with `#` is a remark, and is written as it stands. Any

@@ -9,7 +9,7 @@ use lib.Seq.{ext_get_or}
 use Rattle.unique.specs.Twice.{Twice}
 use Rattle.set_members.proofs.Unique.{sets_equal}
 use Rattle.rules_run.specs.Row.{TERMS, COLUMNS}
-use Rattle.run_table.specs.Lists.{lists}
+use Rattle.run_table.specs.Lists.{both}
 use Rattle.run_table.specs.Sets.{PENDING, columns_of, pending_of}
 use Rattle.run_table.proofs.SameEnd.{SameEnd, SameLinks, table_same_end, stirred_alike}
 use Rattle.run_fold.specs.Contract.{Noted}
@@ -19,7 +19,7 @@ use Rattle.run_fold.proofs.fold_rows.Reads.{Post}
 -- How the fold ends is fixed, and both lists where it is done; where it is refused, so is every place but those of the n rows, which may hold
 -- anything that is sound: the run ends there, and its caller clears them. (The sets are hints: any serve that have room.)
 pub fold_rows_unique : Twice ps r Post λ κs (_, (_, (n, _))) x y (nums, (dens, (_, (_, (_, (_, (_, (sets, _)))))))) (nums', (dens', (_, (_, (_, (_, (_, (sets', _)))))))).
-    SameEnd 0 (COLUMNS * n) x y (lists nums dens) (lists nums' dens') × SameLinks sets.now sets'.now
+    SameEnd 0 (COLUMNS * n) x y (both nums.now dens.now) (both nums'.now dens'.now) × SameLinks sets.now sets'.now
 fold_rows_unique κs (_, (_, (n, _))) x y end end' first second =
     (table_same_end n first.ends second.ends first.kept second.kept first.sound second.sound, stirred_alike first.stirred second.stirred)
 

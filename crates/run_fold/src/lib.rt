@@ -1,9 +1,10 @@
 // Folding a solved form into the rows of the table: into every row that holds the solved unknown, and in a row only into the columns that
 // the form can have.
 #![tactic(auto)]
+
 ghost use Rattle.fraction_reduce.specs.Values.{value, Answers};
-ghost use Rattle.run_table.specs.Lists.{lists, at_entry, at_exit};
-ghost use Rattle.run_table.specs.Work.{lent, entered, leaving};
+ghost use Rattle.run_table.specs.Lists.{both, lists, at_entry};
+ghost use Rattle.run_table.specs.Work.{work};
 ghost use Rattle.run_fold.specs.Cell.{gained_by};
 ghost use Rattle.run_fold.specs.Contract.{Gainable, GainableRow, GainsRow, FoldableAt, FoldsAt};
 ghost use Rattle.run_fold.specs.Contract.{SetsNotable, Noted, FoldableRow, FoldsRow, Passable, Passed, Foldable, Folds};
@@ -41,8 +42,8 @@ fn gain_columns(
     form_nums: &[i32],
     form_dens: &[i32],
 ) -> Step
-    requires { GainableRow base k (lists nums dens) (lists form_nums form_dens) }
-    ensures { GainsRow base k set (at_entry form_nums form_dens) result (at_entry nums dens) (at_exit nums dens) }
+    requires { GainableRow base k (both nums.old dens.old) (lists form_nums form_dens) }
+    ensures { GainsRow base k set (at_entry form_nums form_dens) result (both nums.old dens.old) (both nums.new dens.new) }
 {
     let mut rest = set;
     let mut c: usize = 0;
@@ -73,8 +74,8 @@ fn fold_columns(
     form_nums: &[i32],
     form_dens: &[i32],
 ) -> Step
-    requires { FoldableAt base p set (lists nums dens) (lists form_nums form_dens) }
-    ensures { FoldsAt base p (at_entry form_nums form_dens) result (at_entry nums dens) (at_exit nums dens) }
+    requires { FoldableAt base p set (both nums.old dens.old) (lists form_nums form_dens) }
+    ensures { FoldsAt base p (at_entry form_nums form_dens) result (both nums.old dens.old) (both nums.new dens.new) }
 {
     let k = run_table::get(nums, dens, base + p);
     run_table::put(nums, dens, base + p, Fraction { num: 0, den: 1 });
@@ -113,8 +114,8 @@ fn fold_row(
     form_dens: &[i32],
     sets: &mut [u64],
 ) -> Step
-    requires { FoldableRow t p set (lists form_nums form_dens) (lent nums dens sets) }
-    ensures { FoldsRow t p set (at_entry form_nums form_dens) result (entered nums dens sets) (leaving nums dens sets) }
+    requires { FoldableRow t p set (lists form_nums form_dens) (work nums.old dens.old sets.old) }
+    ensures { FoldsRow t p set (at_entry form_nums form_dens) result (work nums.old dens.old sets.old) (work nums.new dens.new sets.new) }
 {
     let base = COLUMNS * t;
     let k = run_table::get(nums, dens, base + p);
@@ -153,8 +154,8 @@ pub fn fold_rows(
     form_dens: &[i32],
     sets: &mut [u64],
 ) -> Step
-    requires { Foldable n p set (lists form_nums form_dens) (lent nums dens sets) }
-    ensures { Folds n p (at_entry form_nums form_dens) result (entered nums dens sets) (leaving nums dens sets) }
+    requires { Foldable n p set (lists form_nums form_dens) (work nums.old dens.old sets.old) }
+    ensures { Folds n p (at_entry form_nums form_dens) result (work nums.old dens.old sets.old) (work nums.new dens.new sets.new) }
 {
     let mut t: usize = 0;
     while t < n {

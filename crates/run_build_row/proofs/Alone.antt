@@ -147,13 +147,13 @@ combined (Lookup1 symbol input) tag = absurd (miss (2 ∷ 3 ∷ 4 ∷ []) 5 tt t
 combined (Lookup2 symbol first second) tag = absurd (miss (2 ∷ 3 ∷ 4 ∷ []) 6 tt tag)
 combined (Lookup3 symbol first second third) tag = absurd (miss (2 ∷ 3 ∷ 4 ∷ []) 7 tt tag)
 
-pub not_combined : (kind : Kind) → OneOf (0 ∷ 1 ∷ 5 ∷ 6 ∷ 7 ∷ []) (tag_of the_type kind) → Combined kind → ⊥
+pub not_combined : (kind : Kind) → ((s : Scaled) (input : ℕ) → kind ≡ Gain s input → ⊥) → ((left right : ℕ) → kind ≡ Sum left right → ⊥) → ((left right : ℕ) → kind ≡ Difference left right → ⊥) → Combined kind → ⊥
 unfolding Combined
-not_combined (Variable symbol) tag h = h
-not_combined (Constant held) tag h = h
-not_combined (Gain factor input) tag h = miss (0 ∷ 1 ∷ 5 ∷ 6 ∷ 7 ∷ []) 2 tt tag
-not_combined (Sum left right) tag h = miss (0 ∷ 1 ∷ 5 ∷ 6 ∷ 7 ∷ []) 3 tt tag
-not_combined (Difference left right) tag h = miss (0 ∷ 1 ∷ 5 ∷ 6 ∷ 7 ∷ []) 4 tt tag
-not_combined (Lookup1 symbol input) tag h = h
-not_combined (Lookup2 symbol first second) tag h = h
-not_combined (Lookup3 symbol first second third) tag h = h
+not_combined (Variable symbol) no-gain no-sum no-difference h = h
+not_combined (Constant held) no-gain no-sum no-difference h = h
+not_combined (Gain factor input) no-gain no-sum no-difference h = no-gain factor input refl
+not_combined (Sum left right) no-gain no-sum no-difference h = no-sum left right refl
+not_combined (Difference left right) no-gain no-sum no-difference h = no-difference left right refl
+not_combined (Lookup1 symbol input) no-gain no-sum no-difference h = h
+not_combined (Lookup2 symbol first second) no-gain no-sum no-difference h = h
+not_combined (Lookup3 symbol first second third) no-gain no-sum no-difference h = h

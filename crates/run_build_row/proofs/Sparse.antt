@@ -17,7 +17,7 @@ use Rattle.fraction.specs.Exact.{ℚ, worth, zero_ℚ, ◌+ℚ◌, ◌-ℚ◌, �
 use Rattle.fraction.specs.Limits.{tested, plus, minus, times}
 use Rattle.fraction.specs.Made.{Made, made}
 use Rattle.fraction.proofs.Field.{plus_zero, plus_inverse, times_zero, minus_is_plus}
-use Rattle.fraction_reduce.specs.Values.{value, Good}
+use Rattle.fraction_reduce.specs.Values.{Good}
 use Rattle.fraction_reduce.proofs.Tests.{zero_stands, zero_passes}
 use Rattle.rules_problem.specs.declared.Kind.{Kind}
 use Rattle.rules_problem.specs.declared.Kind.TheVariants.{Variable, Constant, Gain, Sum, Difference, Lookup1, Lookup2, Lookup3}

@@ -11,7 +11,7 @@ use Rattle.rules_problem.specs.declared.Kind.{Kind}
 use Rattle.rules_run.specs.Row.{COLUMNS}
 use Rattle.run_table.specs.declared.Step.{Step}
 use Rattle.run_table.specs.Held.{row_at}
-use Rattle.run_table.specs.Lists.{both, lists}
+use Rattle.run_table.specs.Lists.{both}
 use Rattle.run_table.proofs.Determined.{step_determined, done_determined, row_determined, lists_determined}
 use Rattle.run_table.proofs.SameEnd.{SameEnd, kept_alike}
 use Rattle.run_build_row.specs.Contract.{RowBuilt}
@@ -36,7 +36,7 @@ row_built_same {t = t} {x} {y} {nums = nums} {dens} {nums'} {dens'} first second
 -- anything: the run ends there, and its caller clears them. So are the sets but for the one noted for the row, of which only that it has
 -- room for the row's columns is promised. Said of the contract itself: of what the toolchain reads from it.
 pub build_term_unique : Twice ps r Post λ κs (term, (t, _)) x y (_, (_, (nums, (dens, (sets, _))))) (_, (_, (nums', (dens', (sets', _))))).
-    SameEnd (COLUMNS * t) (COLUMNS * t + COLUMNS) x y (lists nums dens) (lists nums' dens') × (length sets.now ≡ length sets'.now) × ((k : ℕ) → (k ≡ t → ⊥) → get_or sets.now k 0 ≡ get_or sets'.now k 0)
+    SameEnd (COLUMNS * t) (COLUMNS * t + COLUMNS) x y (both nums.now dens.now) (both nums'.now dens'.now) × (length sets.now ≡ length sets'.now) × ((k : ℕ) → (k ≡ t → ⊥) → get_or sets.now k 0 ≡ get_or sets'.now k 0)
 build_term_unique κs a x y end end' first second = (
   row_built_same first.built second.built,
   first.size ∙ sym second.size,

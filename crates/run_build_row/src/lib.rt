@@ -1,12 +1,13 @@
 // The row of one term, built from the rows before it.
 #![tactic(auto)]
+
 ghost use Rattle.std.specs.Prelude.{◌≡◌, ℕ};
 ghost use Rattle.set_members.specs.Sets.{holds};
 ghost use Rattle.fraction.specs.Exact.{one_ℚ};
 ghost use Rattle.fraction.specs.InRecord.{InRecord};
 ghost use Rattle.fraction_reduce.specs.Values.{value, Answers};
-ghost use Rattle.run_table.specs.Lists.{lists, at_entry, at_exit};
-ghost use Rattle.run_table.specs.Work.{lent, entered, leaving};
+ghost use Rattle.run_table.specs.Lists.{both, lists, at_entry};
+ghost use Rattle.run_table.specs.Work.{work};
 ghost use Rattle.run_build_row.specs.Buildable.{FractionOf, FactorOf};
 ghost use Rattle.run_build_row.specs.Contract.{column_built, cell_at, Room, CellReadable, Combinable, Blanks, Coverable};
 ghost use Rattle.run_build_row.specs.Contract.{Blanked, Placeable, StandsAlone, Makeable, Joinable, Makes, TermBuildable, TermBuilt};
@@ -69,8 +70,8 @@ fn factor_of(kind: Kind) -> Fraction
 
 // Row t with 0 in every column; no other place has changed.
 fn blank_row(t: usize, nums: &mut [i32], dens: &mut [i32])
-    requires { Room t (lists nums dens) }
-    ensures { Blanks t (at_entry nums dens) (at_exit nums dens) }
+    requires { Room t (both nums.old dens.old) }
+    ensures { Blanks t (both nums.old dens.old) (both nums.new dens.new) }
 {
     let from = COLUMNS * t;
     run_fill::fill(nums, from, from + TERMS, 0);
@@ -94,8 +95,8 @@ fn columns_of(kind: Kind, t: usize, sets: &[u64]) -> u64
 
 // f in column `only` of row t, which is blank.
 fn alone_row(t: usize, only: usize, f: Fraction, nums: &mut [i32], dens: &mut [i32]) -> Step
-    requires { Placeable t only f (lists nums dens) }
-    ensures { StandsAlone t only (value f) result (at_entry nums dens) (at_exit nums dens) }
+    requires { Placeable t only f (both nums.old dens.old) }
+    ensures { StandsAlone t only (value f) result (both nums.old dens.old) (both nums.new dens.new) }
 {
     run_table::put(nums, dens, COLUMNS * t + only, f);
     Step::Done
@@ -103,8 +104,8 @@ fn alone_row(t: usize, only: usize, f: Fraction, nums: &mut [i32], dens: &mut [i
 
 // 01, The run, 1: "An unknown's row is 1 at itself".
 fn unknown_row(t: usize, nums: &mut [i32], dens: &mut [i32]) -> Step
-    requires { Blanked t (lists nums dens) }
-    ensures { StandsAlone t t one_ℚ result (at_entry nums dens) (at_exit nums dens) }
+    requires { Blanked t (both nums.old dens.old) }
+    ensures { StandsAlone t t one_ℚ result (both nums.old dens.old) (both nums.new dens.new) }
 {
     alone_row(t, t, Fraction { num: 1, den: 1 }, nums, dens)
 }
@@ -119,8 +120,8 @@ fn built_row(
     nums: &mut [i32],
     dens: &mut [i32],
 ) -> Step
-    requires { Joinable kind factor t columns (lists nums dens) }
-    ensures { Makes kind t columns result (at_entry nums dens) (at_exit nums dens) }
+    requires { Joinable kind factor t columns (both nums.old dens.old) }
+    ensures { Makes kind t columns result (both nums.old dens.old) (both nums.new dens.new) }
 {
     let mut rest = columns;
     let mut c: usize = 0;
@@ -147,8 +148,8 @@ fn term_row(
     nums: &mut [i32],
     dens: &mut [i32],
 ) -> Step
-    requires { Makeable kind factor t columns (lists nums dens) }
-    ensures { Makes kind t columns result (at_entry nums dens) (at_exit nums dens) }
+    requires { Makeable kind factor t columns (both nums.old dens.old) }
+    ensures { Makes kind t columns result (both nums.old dens.old) (both nums.new dens.new) }
 {
     match kind {
         Kind::Variable { symbol } => unknown_row(t, nums, dens),
@@ -177,8 +178,8 @@ pub fn build_term(
     dens: &mut [i32],
     sets: &mut [u64],
 ) -> Step
-    requires { TermBuildable term.kind t (lent nums dens sets) }
-    ensures { TermBuilt term.kind t result (entered nums dens sets) (leaving nums dens sets) }
+    requires { TermBuildable term.kind t (work nums.old dens.old sets.old) }
+    ensures { TermBuilt term.kind t result (work nums.old dens.old sets.old) (work nums.new dens.new sets.new) }
 {
     let kind = term.kind;
     let factor = factor_of(kind);

@@ -46,8 +46,9 @@ pub loop-turns-smaller-in-Nothing : goal.loop-turns-smaller-in-Nothing
 loop-turns-smaller-in-Nothing c = let some_left = c.loop-turns-test.true in search rules
 
 pub loop-turns-preserved-in-Nothing : goal.loop-turns-preserved-in-Nothing
+unfolding open_of
 loop-turns-preserved-in-Nothing c =
-    let sized : length (waiting_by c.find_due.ensures) ≡ 65 = omega (arith, c.find_due.ensures.kept, c.wake.ensures.kept, c.loop-turns.invariant.sized) in
+    let sized : length (waiting_by c.find_due.ensures) ≡ 65 = omega (arith, c.find_due.auto.waiting, c.wake.auto.waiting, c.loop-turns.invariant.sized) in
     let turned = closing_merged c.loop-turns.invariant c.wake.ensures c.find_due.ensures (search rules) c.in-Pair.is c.without-open.result c.without-open.ensures c.merge.ensures sized in
     turned.same c.in-Nothing.is
 
@@ -61,14 +62,16 @@ pub loop-turns-smaller : goal.loop-turns-smaller
 loop-turns-smaller c = let some_left = c.loop-turns-test.true in search rules
 
 pub loop-turns-preserved : goal.loop-turns-preserved
+unfolding open_of
 loop-turns-preserved c =
-    let sized : length (waiting_by c.find_due.ensures) ≡ 65 = omega (arith, c.find_due.ensures.kept, c.wake.ensures.kept, c.loop-turns.invariant.sized) in
+    let sized : length (waiting_by c.find_due.ensures) ≡ 65 = omega (arith, c.find_due.auto.waiting, c.wake.auto.waiting, c.loop-turns.invariant.sized) in
     let turned = closing_merged c.loop-turns.invariant c.wake.ensures c.find_due.ensures (search rules) c.in-Pair.is c.without-open.result c.without-open.ensures c.merge.ensures sized in
     turned.more c.in-Solved.is
 
 pub returns-in-Contradiction : goal.returns-in-Contradiction
+unfolding open_of
 returns-in-Contradiction c =
-    let sized : length (waiting_by c.find_due.ensures) ≡ 65 = omega (arith, c.find_due.ensures.kept, c.wake.ensures.kept, c.loop-turns.invariant.sized) in
+    let sized : length (waiting_by c.find_due.ensures) ≡ 65 = omega (arith, c.find_due.auto.waiting, c.wake.auto.waiting, c.loop-turns.invariant.sized) in
     let turned = closing_merged c.loop-turns.invariant c.wake.ensures c.find_due.ensures (search rules) c.in-Pair.is c.without-open.result c.without-open.ensures c.merge.ensures sized in
     turned.contradicts c.in-Contradiction.is
 
@@ -82,8 +85,9 @@ pub shape_of-sets-in-Contradiction : goal.shape_of-sets-in-Contradiction
 shape_of-sets-in-Contradiction c = (returns-in-Contradiction c).size
 
 pub returns-in-Refused : goal.returns-in-Refused
+unfolding open_of
 returns-in-Refused c =
-    let sized : length (waiting_by c.find_due.ensures) ≡ 65 = omega (arith, c.find_due.ensures.kept, c.wake.ensures.kept, c.loop-turns.invariant.sized) in
+    let sized : length (waiting_by c.find_due.ensures) ≡ 65 = omega (arith, c.find_due.auto.waiting, c.wake.auto.waiting, c.loop-turns.invariant.sized) in
     let turned = closing_merged c.loop-turns.invariant c.wake.ensures c.find_due.ensures (search rules) c.in-Pair.is c.without-open.result c.without-open.ensures c.merge.ensures sized in
     turned.refuses _ c.in-Refused.is
 

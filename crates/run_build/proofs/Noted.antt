@@ -85,16 +85,18 @@ module _ {kind : Kind} {symbol : ℕ} where
   lookup3_numbered is = rw is (record { head = refl; first = refl; second = refl; third = refl })
 
 -- A term of another kind is no lookup.
-pub other_numbered : (kind : Kind) → OneOf (0 ∷ 1 ∷ 2 ∷ 3 ∷ 4 ∷ []) (tag_of the_type kind) → Numbered kind (record { head = 0; first = 0; second = 0; third = 0 })
+pub other_numbered : (kind : Kind)
+    → ((s i : ℕ) → kind ≡ Lookup1 s i → ⊥) → ((s i j : ℕ) → kind ≡ Lookup2 s i j → ⊥) → ((s i j k : ℕ) → kind ≡ Lookup3 s i j k → ⊥)
+    → Numbered kind (record { head = 0; first = 0; second = 0; third = 0 })
 unfolding head_of input_of call_of inputs_of
-other_numbered (Variable symbol) tag = record { head = refl; first = refl; second = refl; third = refl }
-other_numbered (Constant value) tag = record { head = refl; first = refl; second = refl; third = refl }
-other_numbered (Gain factor input) tag = record { head = refl; first = refl; second = refl; third = refl }
-other_numbered (Sum left right) tag = record { head = refl; first = refl; second = refl; third = refl }
-other_numbered (Difference left right) tag = record { head = refl; first = refl; second = refl; third = refl }
-other_numbered (Lookup1 symbol input) tag = absurd (miss (0 ∷ 1 ∷ 2 ∷ 3 ∷ 4 ∷ []) 5 tt tag)
-other_numbered (Lookup2 symbol first second) tag = absurd (miss (0 ∷ 1 ∷ 2 ∷ 3 ∷ 4 ∷ []) 6 tt tag)
-other_numbered (Lookup3 symbol first second third) tag = absurd (miss (0 ∷ 1 ∷ 2 ∷ 3 ∷ 4 ∷ []) 7 tt tag)
+other_numbered (Variable symbol) not1 not2 not3 = record { head = refl; first = refl; second = refl; third = refl }
+other_numbered (Constant value) not1 not2 not3 = record { head = refl; first = refl; second = refl; third = refl }
+other_numbered (Gain factor input) not1 not2 not3 = record { head = refl; first = refl; second = refl; third = refl }
+other_numbered (Sum left right) not1 not2 not3 = record { head = refl; first = refl; second = refl; third = refl }
+other_numbered (Difference left right) not1 not2 not3 = record { head = refl; first = refl; second = refl; third = refl }
+other_numbered (Lookup1 symbol input) not1 not2 not3 = absurd (not1 symbol input refl)
+other_numbered (Lookup2 symbol first second) not1 not2 not3 = absurd (not2 symbol first second refl)
+other_numbered (Lookup3 symbol first second third) not1 not2 not3 = absurd (not3 symbol first second third refl)
 
 -- They are stored.
 pub notable_below : {kind : Kind} {t : ℕ} {heads inputs : List ℕ} → Notable kind t heads inputs → InputsEarlier TERMS kind

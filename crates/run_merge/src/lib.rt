@@ -1,7 +1,7 @@
 // Merging two terms: the difference of their rows, the unknown that it solves, and the fold into every row.
 #![tactic(auto)]
 
-ghost use Rattle.run_table.specs.Lists.{row_in, both};
+ghost use Rattle.run_table.specs.Lists.{both, row_in};
 ghost use Rattle.run_table.specs.Work.{work};
 ghost use Rattle.run_merge.specs.Contract.{Mergeable, Settleable, Solvable, Solves, Settles, Merges};
 

@@ -8,12 +8,6 @@ use Rattle.run_assume.specs.Contract.{assumed_by}
 use Rattle.run_assume.proofs.All.{AssumedOne, assuming_starts, sides_below_lem, assuming_ends, assuming_turned}
 use Rattle.run_assume.proofs.assume_all.Goals as goal
 
--- what the assumption of this c leaves
-turned : (o : Assumed) →
-    AssumedOne c.args.bytes.now c.args.n c.args.m c.args.solved c.args.heads.now c.args.inputs.now (lent c.args.nums c.args.dens c.args.sets) (c.loop-k.k + 1) (assumed_by o.assume-one.ensures) o.assume-one.result
-turned o =
-    assuming_turned c.requires c.loop-k.invariant c.loop-k-test.true c.pair_at-pair.result c.pair_at-pair.ensures o.assume-one.ensures
-
 pub loop-k-init : goal.loop-k-init
 loop-k-init c = assuming_starts c.requires
 
@@ -33,10 +27,10 @@ overflow_add-k c = let held = c.requires.prepared.held in
     record { fits = omega (arith, c.loop-k-test.true) }
 
 pub loop-k-preserved : goal.loop-k-preserved
-loop-k-preserved c = (turned c).on _ c.in-Going.is
+loop-k-preserved c = (assuming_turned c.requires c.loop-k.invariant c.loop-k-test.true c.pair_at-pair.result c.pair_at-pair.ensures c.assume_one.ensures).on _ c.in-Going.is
 
 pub returns-in-Ended : goal.returns-in-Ended
-returns-in-Ended c = (turned c).stops _ c.in-Ended.is
+returns-in-Ended c = (assuming_turned c.requires c.loop-k.invariant c.loop-k-test.true c.pair_at-pair.result c.pair_at-pair.ensures c.assume_one.ensures).stops _ c.in-Ended.is
 
 pub shape_of-sets-in-Ended : goal.shape_of-sets-in-Ended
 shape_of-sets-in-Ended c = (returns-in-Ended c).stays.size

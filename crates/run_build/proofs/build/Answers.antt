@@ -4,10 +4,6 @@ use Rattle.run_build.proofs.Rows.{rising_starts, rising_reads, rising_notes, ris
 use Rattle.std.proofs.Common.{rules}
 use Rattle.run_build.proofs.build.Goals as goal
 
--- there is a turn
-more : (r : Read) → r.loop.t < r.args.n
-more r = search rules
-
 pub loop-t-init : goal.loop-t-init
 loop-t-init c = search rising_starts
 
@@ -21,13 +17,13 @@ pub note_links-requires : goal.note_links-requires
 note_links-requires c = search rising_links
 
 pub build_term-requires : goal.build_term-requires
-build_term-requires c = rising_rows c.requires c.loop-t.invariant (more c) c.term_at-term.ensures c.note_call.ensures c.note_links.ensures
+build_term-requires c = rising_rows c.requires c.loop-t.invariant c.loop-t-test.true c.term_at-term.ensures c.note_call.ensures c.note_links.ensures
 
 pub loop-t-preserved : goal.loop-t-preserved
-loop-t-preserved c = rising_goes_on c.requires c.loop-t.invariant (more c) c.term_at-term.ensures c.note_call.ensures c.note_links.ensures c.build_term.ensures c.in-Done.is
+loop-t-preserved c = rising_goes_on c.requires c.loop-t.invariant c.loop-t-test.true c.term_at-term.ensures c.note_call.ensures c.note_links.ensures c.build_term.ensures c.in-Done.is
 
 pub returns-in-Refused : goal.returns-in-Refused
-returns-in-Refused c = rising_stops c.requires c.loop-t.invariant (more c) c.term_at-term.ensures c.note_call.ensures c.note_links.ensures c.build_term.ensures c.in-Refused.is
+returns-in-Refused c = rising_stops c.requires c.loop-t.invariant c.loop-t-test.true c.term_at-term.ensures c.note_call.ensures c.note_links.ensures c.build_term.ensures c.in-Refused.is
 
 pub shape_of-sets-in-Refused : goal.shape_of-sets-in-Refused
 shape_of-sets-in-Refused c = (returns-in-Refused c).size

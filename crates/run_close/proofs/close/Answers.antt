@@ -11,22 +11,6 @@ use Rattle.run_due_pair.specs.Contract.{waiting_by}
 use Rattle.run_close.proofs.Turns.{Turned, closing_idle, closing_starts, closing_ends, closing_searches, closing_over, pair_below, closing_merges, closing_merged}
 use Rattle.run_close.proofs.close.Goals as goal
 
--- what the merge leaves
-turned : (m : Merging) →
-    let f = m in
-    let h = f in
-    let s = h in
-    Turned s.args.n s.args.solved s.args.heads.now s.args.inputs.now (lent s.args.nums s.args.dens s.args.sets) h.loop.count (h.loop.turns - 1) (left_by m.merge.ensures) (waiting_by f.find-due.ensures) m.merge.result
-unfolding open_of
-turned m =
-    let o = m in
-    let l = o in
-    let f = l in
-    let w = f in
-    let h = w in
-    let sized : length (waiting_by f.find-due.ensures) ≡ 65 = omega (arith, f.find-due.kept, w.wake.kept, h.loop.inv.sized) in
-    closing_merged h.loop.inv w.wake.ensures f.find-due.ensures (search rules) l.left.given.1 o.without.result o.without.ensures m.merge.ensures sized
-
 pub returns-then-sets-eq0 : goal.returns-then-sets-eq0
 unfolding pending_of
 returns-then-sets-eq0 c = search closing_idle
@@ -62,7 +46,11 @@ pub loop-turns-smaller-in-Nothing : goal.loop-turns-smaller-in-Nothing
 loop-turns-smaller-in-Nothing c = let some_left = c.loop-turns-test.true in search rules
 
 pub loop-turns-preserved-in-Nothing : goal.loop-turns-preserved-in-Nothing
-loop-turns-preserved-in-Nothing c = (turned c).same c.in-Nothing.is
+unfolding open_of
+loop-turns-preserved-in-Nothing c =
+    let sized : length (waiting_by c.find_due.ensures) ≡ 65 = omega (arith, c.find_due.auto.waiting, c.wake.auto.waiting, c.loop-turns.invariant.sized) in
+    let turned = closing_merged c.loop-turns.invariant c.wake.ensures c.find_due.ensures (search rules) c.in-Pair.is c.without-open.result c.without-open.ensures c.merge.ensures sized in
+    turned.same c.in-Nothing.is
 
 pub overflow_add-count : goal.overflow_add-count
 overflow_add-count c = record { fits = omega (arith, c.loop-turns.invariant.counted, c.requires) }
@@ -74,10 +62,18 @@ pub loop-turns-smaller : goal.loop-turns-smaller
 loop-turns-smaller c = let some_left = c.loop-turns-test.true in search rules
 
 pub loop-turns-preserved : goal.loop-turns-preserved
-loop-turns-preserved c = (turned c).more c.in-Solved.is
+unfolding open_of
+loop-turns-preserved c =
+    let sized : length (waiting_by c.find_due.ensures) ≡ 65 = omega (arith, c.find_due.auto.waiting, c.wake.auto.waiting, c.loop-turns.invariant.sized) in
+    let turned = closing_merged c.loop-turns.invariant c.wake.ensures c.find_due.ensures (search rules) c.in-Pair.is c.without-open.result c.without-open.ensures c.merge.ensures sized in
+    turned.more c.in-Solved.is
 
 pub returns-in-Contradiction : goal.returns-in-Contradiction
-returns-in-Contradiction c = (turned c).contradicts c.in-Contradiction.is
+unfolding open_of
+returns-in-Contradiction c =
+    let sized : length (waiting_by c.find_due.ensures) ≡ 65 = omega (arith, c.find_due.auto.waiting, c.wake.auto.waiting, c.loop-turns.invariant.sized) in
+    let turned = closing_merged c.loop-turns.invariant c.wake.ensures c.find_due.ensures (search rules) c.in-Pair.is c.without-open.result c.without-open.ensures c.merge.ensures sized in
+    turned.contradicts c.in-Contradiction.is
 
 pub shape_of-nums-in-Contradiction : goal.shape_of-nums-in-Contradiction
 shape_of-nums-in-Contradiction c = (returns-in-Contradiction c).kept.nums_length
@@ -89,7 +85,11 @@ pub shape_of-sets-in-Contradiction : goal.shape_of-sets-in-Contradiction
 shape_of-sets-in-Contradiction c = (returns-in-Contradiction c).size
 
 pub returns-in-Refused : goal.returns-in-Refused
-returns-in-Refused c = (turned c).refuses _ c.in-Refused.is
+unfolding open_of
+returns-in-Refused c =
+    let sized : length (waiting_by c.find_due.ensures) ≡ 65 = omega (arith, c.find_due.auto.waiting, c.wake.auto.waiting, c.loop-turns.invariant.sized) in
+    let turned = closing_merged c.loop-turns.invariant c.wake.ensures c.find_due.ensures (search rules) c.in-Pair.is c.without-open.result c.without-open.ensures c.merge.ensures sized in
+    turned.refuses _ c.in-Refused.is
 
 pub shape_of-nums-in-Refused : goal.shape_of-nums-in-Refused
 shape_of-nums-in-Refused c = (returns-in-Refused c).kept.nums_length

@@ -30,4 +30,4 @@ pub returns-in-Lookup3 : goal.returns-in-Lookup3
 returns-in-Lookup3 c = search lookup3_numbered
 
 pub returns-in_default : goal.returns-in_default
-returns-in_default c = search other_numbered
+returns-in_default c = other_numbered c.args.kind c.in_default.not-Lookup1 c.in_default.not-Lookup2 c.in_default.not-Lookup3

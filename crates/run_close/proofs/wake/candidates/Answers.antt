@@ -8,10 +8,10 @@ use Rattle.run_close.proofs.wake.candidates.Goals as goal
 
 pub returns-then-has : goal.returns-then-has
 unfolding earlier_of pending_of open_of
-returns-then-has c = let pending = sym c.has.ensures ∙ c.if-has.true in
+returns-then-has c i = let pending = sym c.has.ensures ∙ c.if-has.true in
     rw (pending, or-true, and-true) (c.common-earlier.ensures i)
 
 pub returns : goal.returns
 unfolding earlier_of pending_of open_of
-returns c = let asleep = sym c.has.ensures ∙ c.if-has.left in
+returns c i = let asleep = sym c.has.ensures ∙ c.if-has.false in
     rw (asleep, or-false) (c.common.ensures i ∙ ap (λ b. b && holds (get_or c.args.sets.now 192 0) i) (c.common-earlier.ensures i))

@@ -3,25 +3,18 @@ use Rattle.std.proofs.Common.{rules}
 use mathlib.Core.List.{List}
 use Prim.Native.Nat.{ℕ, ◌+◌, ◌-◌, ◌<◌}
 use Rattle.std.proofs.Common.{arith}
-use Rattle.set_extremes.specs.Extremes.{Next}
+use Rattle.set_extremes.specs.Extremes.{Next, Rest}
 use Rattle.set_extremes.proofs.Taken.{From, from_starts, from_first, from_here, from_rest}
 use Rattle.run_table.specs.Sets.{pending_of, open_of}
 use Rattle.run_close.proofs.Waking.{Waking, grown_itself, waking_skips, waking_more, woken_ends, woken_idle}
+use Rattle.run_close.proofs.wake.wake.Invariants.{WakingOn}
 use Rattle.run_close.proofs.wake.wake.Goals as goal
 
--- In the loop: the open right sides below j are noted, and those from j on are left.
-record WakingOn (sets waiting₀ waiting : List ℕ) (j : ℕ) : Type 0 where
-  waking : Waking sets waiting₀ j waiting
-  from : From (open_of sets) j rest
-  next : Next 0 j
-
 -- the right side after this one
-onward : (c : goal.After-first-j-in-loop-j) → let sets = c.args.sets.now in Next (open_of sets) (c.loop-j.j + 1) c.first-j-in-loop-j.result × From (open_of sets) c.first-j-in-loop-j.result c.rest-rest.result
-onward c =
-    let c = c.loop-j in
-    let few : c.j < 64 = search rules in
-    let later = from_rest (omega arith) c.inv.from c.inv.next c.rest-rest.ensures in
-    (from_first (omega arith) later c.first-j-in-loop-j.ensures, from_here (omega arith) later c.first-j-in-loop-j.ensures)
+onward : {sets waiting₀ waiting : List ℕ} {rest j rest' j' : ℕ} → WakingOn sets waiting₀ waiting rest j → j < 64 → Rest rest rest' → Next rest' 0 j' → Next (open_of sets) (j + 1) j' × From (open_of sets) j' rest'
+onward on few rests next =
+    let later = from_rest (omega arith) on.from on.next rests in
+    (from_first (omega arith) later next, from_here (omega arith) later next)
 
 pub returns-then-sets-eq0 : goal.returns-then-sets-eq0
 unfolding pending_of
@@ -36,12 +29,12 @@ pub wake_right-requires : goal.wake_right-requires
 wake_right-requires c = let sized = c.loop-j.invariant.waking.grown.same_length in search rules
 
 pub loop-j-smaller : goal.loop-j-smaller
-loop-j-smaller c = let forward = (onward c).0.forward in search rules
+loop-j-smaller c = let forward = (onward c.loop-j.invariant (search rules) c.rest-rest.ensures c.first-j-in-loop-j.ensures).0.forward in search rules
 
 pub loop-j-preserved : goal.loop-j-preserved
-loop-j-preserved c = let turn = c.wake_right in
-    let h = c.loop-j in
-    record { waking = waking_skips (onward c).0 (waking_more h.j turn.ensures h.inv.waking); from = (onward c).1; next = c.first-j-in-loop-j.ensures }
+loop-j-preserved c =
+    let on = onward c.loop-j.invariant (search rules) c.rest-rest.ensures c.first-j-in-loop-j.ensures in
+    record { waking = waking_skips on.0 (waking_more c.loop-j.j c.wake_right.ensures c.loop-j.invariant.waking); from = on.1; next = c.first-j-in-loop-j.ensures }
 
 pub shape_of-waiting : goal.shape_of-waiting
 shape_of-waiting c = c.loop-j.invariant.waking.grown.same_length

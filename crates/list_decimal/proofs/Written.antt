@@ -1,6 +1,5 @@
 -- Numbers in decimal, written digit by digit: there is room for each digit, and what is written is the number.
 -- Main results: `digit_fits`, `tenth_fits`, `last_fits`, `wrote_digit`, `wrote_last`. Assume nothing.
-use mathlib.Core.Path.{ap}
 use mathlib.Core.List.{List, [], ◌∷◌}
 use Prim.Native.Nat.{ℕ, ◌+◌, ◌/◌, ◌%◌, ◌≤◌, ◌<◌}
 use Rattle.rules_listing.specs.Text.{decimal}

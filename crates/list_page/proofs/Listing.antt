@@ -21,7 +21,6 @@ use Rattle.list_text.specs.Wrote.{Wrote}
 use Rattle.list_text.proofs.Placing.{wrote_then}
 use Rattle.list_fractions.proofs.Fractions.{and_false}
 use Rattle.list_first_line.specs.Contract.{FirstFits, FirstWritten}
-use Rattle.list_lines.specs.declared.Reached.{Reached}
 use Rattle.list_lines.specs.declared.Reached.TheVariants.{At, Refused}
 use Rattle.list_lines.specs.Contract.{reached_of, listed_by, place_of}
 use Rattle.list_page.specs.Contract.{RowsLent, RowsFit, RowsWritten, Paged}

@@ -9,7 +9,7 @@ use lib.ListN.{length, get_or}
 use lib.IntN.{ℤ, pos, nat_abs}
 use Rattle.fraction.specs.Exact.{frac}
 use Rattle.fraction.specs.Limits.{within}
-use Rattle.rules_run.specs.Row.{TERMS, COLUMNS, column}
+use Rattle.rules_run.specs.Row.{COLUMNS, column}
 use Rattle.rules_listing.specs.Line.{piece, pieces}
 use Rattle.rules_listing.specs.Listing.{is_fraction, places_of}
 use Rattle.list_fractions.specs.Listable.{Listable, row_held}

@@ -3,7 +3,7 @@
 use mathlib.Core.Path.{◌≡◌, refl, sym, ap, ap₂, ◌∙◌}
 use mathlib.Core.Bool.{Bool, true, false, ◌&&◌, cond}
 use mathlib.Core.List.{List, [], ◌++◌, append-nil, append_assoc}
-use Prim.Native.Nat.{ℕ, zero, suc, ◌+◌, ◌*◌, ◌≤◌, ◌<◌}
+use Prim.Native.Nat.{ℕ, zero, suc, ◌*◌, ◌≤◌, ◌<◌}
 use native.Mathlib.Omega.{arith}
 use lib.Dec.{eqb, leb}
 use lib.ListN.{length, length-append}
@@ -16,7 +16,7 @@ use Rattle.fraction.specs.Exact.{ℚ, frac, zero_ℚ, whole, eq_ℤ, eq_ℚ}
 use Rattle.fraction.specs.Limits.{limit, within}
 use Rattle.whole.proofs.Steps.{gcd_stops}
 use Rattle.fraction_reduce.proofs.Lowest.{lowest_num, lowest_den}
-use Rattle.rules_run.specs.Row.{Row, TERMS, constant, column}
+use Rattle.rules_run.specs.Row.{Row, constant, column}
 use Rattle.rules_listing.specs.Text.{ascii, decimal}
 use Rattle.rules_listing.specs.Line.{sign_of, fraction_text, term_text, piece, pieces}
 use Rattle.list_decimal.proofs.Decimal.{decimal_length}

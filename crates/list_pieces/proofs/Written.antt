@@ -1,6 +1,6 @@
 -- The pieces written byte by byte: there is room for each part, and what is written is the piece, and in the end the pieces of the row.
 -- Main results: `wrote_over`, `wrote_term`, `wrote_piece`, `pieces_more`, `pieces_end`. Assume nothing.
-use mathlib.Core.Path.{◌≡◌, refl, sym, ap, ap₂, ◌∙◌}
+use mathlib.Core.Path.{◌≡◌, refl, sym, ap, ◌∙◌}
 use mathlib.Core.List.{List, [], ◌∷◌, ◌++◌}
 use Prim.Native.Nat.{ℕ, ◌+◌, ◌*◌, ◌≤◌, ◌<◌}
 use native.Mathlib.Numerals.{add-one}

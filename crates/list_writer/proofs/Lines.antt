@@ -2,7 +2,7 @@
 -- Main results: `first_of_page`, `next_of_page`, `two_lines`. Assume nothing.
 use mathlib.Core.Path.{◌≡◌, refl, sym, ap, ap₂, ◌∙◌}
 use mathlib.Core.Bool.{Bool, true, false, ◌&&◌, cond}
-use mathlib.Core.List.{List, [], ◌++◌, append-nil, append_assoc}
+use mathlib.Core.List.{List, ◌++◌, append-nil, append_assoc}
 use Prim.Native.Nat.{ℕ, suc, ◌+◌, ◌≤◌}
 use native.Mathlib.Omega.{arith}
 use lib.Dec.{leb, ltb}
@@ -15,11 +15,11 @@ use Rattle.fraction.specs.Made.{Made, made}
 use Rattle.rules_problem.specs.Problem.{refuse}
 use Rattle.rules_run.specs.Row.{TERMS, PLACES}
 use Rattle.rules_listing.specs.Line.{first_line}
-use Rattle.rules_listing.specs.Listing.{all_fractions, places_of, held_line, Listed, put_at, written_at, refused_at, ROOM, list_row, list_first}
+use Rattle.rules_listing.specs.Listing.{all_fractions, places_of, held_line, written_at, refused_at, ROOM, list_row, list_first}
 use Rattle.rules_listing.specs.Page.{held_lines, page_text}
 use Rattle.list_text.specs.Wrote.{Wrote}
 use Rattle.list_text.proofs.Placing.{take_put_at}
-use Rattle.list_lines.specs.declared.Reached.TheVariants.{At, Refused}
+use Rattle.list_lines.specs.declared.Reached.TheVariants.{At}
 use Rattle.list_lines.specs.Contract.{reached_of, listed_by}
 use Rattle.list_writer.specs.declared.Writer.{Writer}
 use Rattle.list_writer.specs.Contract.{place_after, moved_on, RowWritten, LineWritten}

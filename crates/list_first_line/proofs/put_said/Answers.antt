@@ -1,7 +1,5 @@
 -- `list_first_line::put_said` meets its contract. Assumes nothing.
 use Rattle.std.proofs.Common.{arith}
-use Rattle.list_text.specs.Wrote.{Fits}
-use Rattle.list_first_line.specs.Contract.{said_text}
 use Rattle.list_first_line.proofs.Lines.{said_fits, word_fits, first_fits, blank_fits, second_fits, newline_fits, wrote_said}
 use Rattle.list_first_line.proofs.put_said.Goals as goal
 

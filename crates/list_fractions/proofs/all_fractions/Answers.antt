@@ -1,6 +1,5 @@
 -- `list_fractions::all_fractions` meets its contract. The loop's invariant: the test of the places from c on says what the test of all says.
 -- Assumes nothing.
-use Prim.Native.Nat.{◌-◌}
 use mir.Syntax.{w32}
 use Rattle.whole.proofs.Words.{kept}
 use Rattle.list_fractions.proofs.Tested.{tested_none, tested_fails, tested_more, tested_end}

@@ -1,5 +1,4 @@
 -- `list_page::fraction_rows` meets its contract. The loop's invariant: the rows below t have passed the test. Assumes nothing.
-use Prim.Native.Nat.{◌-◌}
 use Rattle.list_page.proofs.Rows.{row_held_lem, rows_none, rows_fail, rows_more, rows_end}
 use Rattle.list_page.proofs.fraction_rows.Goals as goal
 

@@ -1,5 +1,4 @@
 -- `list_page::put_rows` meets its contract. The loop's invariant: the lines of the rows below t are written. Assumes nothing.
-use Prim.Native.Nat.{◌-◌}
 use Rattle.list_page.proofs.Rows.{lines_none, line_ready, lines_more, lines_end}
 use Rattle.list_page.proofs.put_rows.Goals as goal
 

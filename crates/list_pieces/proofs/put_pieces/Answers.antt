@@ -1,5 +1,4 @@
 -- `list_pieces::put_pieces` meets its contract. The loop's invariant: the pieces of the columns below c are written. Assumes nothing.
-use Prim.Native.Nat.{◌-◌}
 use mir.Syntax.{w32}
 use Rattle.whole.proofs.Words.{kept}
 use Rattle.list_pieces.proofs.Written.{pieces_none, pieces_end, piece_ready, pieces_more}

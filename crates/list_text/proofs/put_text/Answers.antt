@@ -1,5 +1,4 @@
 -- `list_text::put_text` meets its contract. The loop's invariant: the first i bytes of the text are written. Assumes nothing.
-use Prim.Native.Nat.{◌-◌}
 use Rattle.list_text.proofs.Placing.{begun_none, begun_more, begun_all}
 use Rattle.list_text.proofs.put_text.Goals as goal
 

@@ -1,6 +1,6 @@
 -- Two rows compared, column by column, by what each call answers.
 -- Main results: `both_good`, `column_tested`; `Comparing`, `constant_differs`, `comparing_starts`, `column_differs`, `comparing_on`, `comparing_ends`;
--- `itself_same`, `right_differs`, `left_differs`, `rows_within`, `rows_tested`, `terms_within`. Assume nothing.
+-- `itself_same`, `right_differs`, `left_differs`, `rows_within`, `rows_tested`, `left_row_within`, `right_row_within`, `terms_within`. Assume nothing.
 use mathlib.Core.Path.{◌≡◌, sym, ap, ap₂, subst, ◌∙◌}
 use mathlib.Core.Bool.{Bool, true, false, not, ◌&&◌, ◌||◌}
 use mathlib.Core.List.{List}
@@ -16,7 +16,7 @@ use Rattle.fraction.specs.Exact.{eq_ℚ}
 use Rattle.fraction_reduce.specs.Values.{value, Good}
 use Rattle.rules_run.specs.Row.{TERMS, COLUMNS, same_to, same_row}
 use Rattle.run_table.specs.Held.{held_at, row_at, table_at}
-use Rattle.run_table.specs.Sets.{columns_of}
+use Rattle.run_table.specs.Sets.{Within, columns_of}
 use Rattle.run_table.proofs.Columns.{column_held, sound_fewer}
 use Rattle.run_table.proofs.Sparse.{within_left, within_right}
 use Rattle.run_equal_rows.specs.Contract.{BothGood, RowsStand, RowsWithin, TermsWithin, Comparable, same_column, same_at}
@@ -110,17 +110,27 @@ module _ {n t u set : ℕ} {nums dens : List ℤ} (asked : TermsWithin n t u set
   rows_tested answer = answer ∙ sym (same_rows n nums dens t u asked.left asked.right)
 
 -- Both rows are within the union of their sets.
-pub terms_within : {n t u set : ℕ} {nums dens : List ℤ} {sets : List ℕ} → Comparable n t u (record { nums = nums; dens = dens; sets = sets }) → ((k : ℕ) → holds set k ≡ (holds (get_or sets t 0) k || holds (get_or sets u 0) k)) → TermsWithin n t u set nums dens
-unfolding columns_of
-terms_within {t = t} {u} {sets = sets} asked union =
+module _ {n t u set : ℕ} {nums dens : List ℤ} {sets : List ℕ} (asked : Comparable n t u (record { nums = nums; dens = dens; sets = sets }))
+    (union : (k : ℕ) → holds set k ≡ (holds (get_or sets t 0) k || holds (get_or sets u 0) k)) where
+  pub left_row_within : Within set (COLUMNS * t) nums
+  unfolding columns_of
+  left_row_within = within_left (columns_of sets t) (columns_of sets u) union (asked.rows.sparse.within t asked.left)
+
+  pub right_row_within : Within set (COLUMNS * u) nums
+  unfolding columns_of
+  right_row_within = within_right (columns_of sets t) (columns_of sets u) union (asked.rows.sparse.within u asked.right)
+
+-- Rows within a set can be compared by it.
+pub terms_within : {n t u i j set : ℕ} {nums dens : List ℤ} {sets : List ℕ} → Comparable n t u (record { nums = nums; dens = dens; sets = sets }) → i < n → j < n → Within set (COLUMNS * i) nums → Within set (COLUMNS * j) nums → TermsWithin n i j set nums dens
+terms_within asked left right left_within right_within =
     let rows = asked.rows in
     record {
       few = rows.few;
-      left = asked.left;
-      right = asked.right;
+      left = left;
+      right = right;
       nums_fit = rows.nums_fit;
       dens_fit = rows.dens_fit;
       sound = rows.sound;
-      left_within = within_left (columns_of sets t) (columns_of sets u) union (rows.sparse.within t asked.left);
-      right_within = within_right (columns_of sets t) (columns_of sets u) union (rows.sparse.within u asked.right);
+      left_within = left_within;
+      right_within = right_within;
     }

@@ -18,7 +18,7 @@ use Rattle.fraction.specs.Limits.{times}
 use Rattle.fraction.specs.Made.{made}
 use Rattle.fraction_reduce.specs.Values.{value, Good, Stands}
 use Rattle.fraction_reduce.proofs.Tests.{zero_stands}
-use Rattle.rules_run.specs.Row.{TERMS, column}
+use Rattle.rules_run.specs.Row.{TERMS, COLUMNS, column}
 use Rattle.run_table.specs.declared.Step.{Step}
 use Rattle.run_table.specs.Held.{held_at, row_at}
 use Rattle.run_table.specs.Lists.{both}
@@ -32,9 +32,9 @@ use Rattle.run_solve.specs.Contract.{ScalableRow, ScalesRow, Formable, Forms}
 use Rattle.run_solve.proofs.Cells.{solved_itself, solved_other, solved_nothing}
 
 module _ {p set : ℕ} {nums₀ dens₀ : List ℤ} (asked : Formable p set (both nums₀ dens₀)) where
-  -- The coefficient to divide by is good.
-  pub form_reads : {k : Fraction} → k ≡ held_at nums₀ dens₀ p → Good k
-  form_reads here = let term = asked.unknown.term in first_good asked.row.held here (omega arith)
+  -- The coefficient to divide by is good, as every number of the row is.
+  pub form_reads : {k : Fraction} {c : ℕ} → k ≡ held_at nums₀ dens₀ c → c < COLUMNS → Good k
+  form_reads here below = first_good asked.row.held here (omega arith)
 
   module _ {nums₁ dens₁ : List ℤ} (num : nums₁ ≡ stored_at nums₀ p (pos 0)) (den : dens₁ ≡ stored_at dens₀ p (pos 1)) (others : ℕ)
       (without : (c : ℕ) → holds others c ≡ (not (eqb c p) && holds set c)) where

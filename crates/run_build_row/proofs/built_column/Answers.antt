@@ -11,19 +11,19 @@ pub product-requires : goal.product-requires
 product-requires c = search (earlier_good, gain_below)
 
 pub cell-requires-in-Sum : goal.cell-requires-in-Sum
-cell-requires-in-Sum c = search (earlier_read, sum_left)
+cell-requires-in-Sum c = search (earlier_read, sum_left, sum_right)
 
 pub cell-requires-in-Sum-2 : goal.cell-requires-in-Sum-2
-cell-requires-in-Sum-2 c = search (earlier_read, sum_right)
+cell-requires-in-Sum-2 c = search (earlier_read, sum_left, sum_right)
 
 pub sum-requires : goal.sum-requires
 sum-requires c = search (earlier_good, sum_left, sum_right)
 
 pub cell-requires-in-Difference : goal.cell-requires-in-Difference
-cell-requires-in-Difference c = search (earlier_read, difference_left)
+cell-requires-in-Difference c = search (earlier_read, difference_left, difference_right)
 
 pub cell-requires-in-Difference-2 : goal.cell-requires-in-Difference-2
-cell-requires-in-Difference-2 c = search (earlier_read, difference_right)
+cell-requires-in-Difference-2 c = search (earlier_read, difference_left, difference_right)
 
 pub difference-requires : goal.difference-requires
 difference-requires c = search (earlier_good, difference_left, difference_right)

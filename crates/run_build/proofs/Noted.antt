@@ -12,13 +12,10 @@ use lib.ListN.{length, get_or, set, length-set}
 use lib.Seq.{get_or-set_same, get_or-set_other}
 use mir.Syntax.{w8}
 use mir.Val.{Fits}
-use denote.Enum.Declared.{tag_of}
-use types.Run.{OneOf, miss}
 use Rattle.rules_problem.specs.declared.Kind.{Kind}
 use Rattle.rules_problem.specs.declared.Kind.TheVariants.{Variable, Constant, Gain, Sum, Difference, Lookup1, Lookup2, Lookup3}
 use Rattle.rules_problem.specs.declared.Term.{Term}
 use Rattle.rules_problem.specs.Lookup.{call_of, inputs_of, kind_at}
-use Rattle.rules_problem.specs.contracts.Kind.{the_type}
 use Rattle.run_table.specs.Notes.{head_of, input_of, LookupsNoted, NotesKept}
 use Rattle.run_table.specs.Sets.{Linked}
 use Rattle.run_build_row.specs.Buildable.{InputsEarlier}

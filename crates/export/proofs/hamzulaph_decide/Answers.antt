@@ -3,4 +3,4 @@ use mathlib.Core.Path.{sym}
 use Rattle.export.proofs.hamzulaph_decide.Goals as goal
 
 pub returns : goal.returns
-returns c = record { answer = _; tells = sym c.in_numbers-t.ensures; c = c.decide-answer.ensures }
+returns c = record { answer = _; tells = sym c.in_numbers-t.ensures; decided = c.decide-answer.ensures }

@@ -1,5 +1,5 @@
 -- Each contract leaves one answer.
--- Main results: `answers_determined`, `stands_determined`, and a law NAME-unique for each public function NAME. Assume nothing.
+-- Main results: `answers_determined`, `stands_determined`, and a law NAME_unique for each public function NAME. Assume nothing.
 use mathlib.Core.Path.{◌≡◌, sym, ap, ◌∙◌}
 use Prim.Native.Nat.{ℕ}
 use native.Mathlib.Omega.{arith}

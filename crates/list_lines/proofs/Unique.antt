@@ -1,5 +1,5 @@
 -- Each contract leaves one answer.
--- Main results: `listed_unique`, and a law NAME-unique for each public function NAME. Assume nothing.
+-- Main results: `listed_unique`, and a law NAME_unique for each public function NAME. Assume nothing.
 use mathlib.Core.Path.{◌≡◌, sym, ap, ap₂, ◌∙◌}
 use mathlib.Core.List.{List}
 use Prim.Native.Nat.{ℕ}

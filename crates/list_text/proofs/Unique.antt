@@ -1,5 +1,5 @@
 -- Each contract leaves one answer: one content of the buffer, and one next place.
--- Main results: `wrote_unique`, and a law NAME-unique for each public function NAME. Assume nothing.
+-- Main results: `wrote_unique`, and a law NAME_unique for each public function NAME. Assume nothing.
 use mathlib.Core.Path.{◌≡◌, sym, ◌∙◌}
 use mathlib.Core.List.{List}
 use Prim.Native.Nat.{ℕ}

@@ -1,5 +1,5 @@
 -- Each contract leaves one answer and one writer: one place reached, and one content of its buffer.
--- Main results: a law NAME-unique for each public function NAME. Assume nothing.
+-- Main results: a law NAME_unique for each public function NAME. Assume nothing.
 use mathlib.Core.Path.{◌≡◌, sym, ap₂, ◌∙◌}
 use contract.Lifetimes.{Lfts}
 use borrow.Fn.World.{ArgsD}

@@ -1,5 +1,5 @@
 -- Each contract leaves one answer.
--- Main results: a law NAME-unique for each public function NAME. Assume nothing.
+-- Main results: a law NAME_unique for each public function NAME. Assume nothing.
 use mathlib.Core.Path.{◌≡◌, sym, ◌∙◌}
 use mathlib.Core.Bool.{Bool}
 use Prim.Native.Nat.{ℕ, ◌<◌}

@@ -1,5 +1,5 @@
 -- The functions on the extremes of a set: each contract leaves one answer.
--- Main results: a law NAME-unique for each public function NAME. Assume nothing.
+-- Main results: a law NAME_unique for each public function NAME. Assume nothing.
 use mathlib.Core.Path.{◌≡◌, refl, subst}
 use mathlib.Core.Bool.{Bool, true, false}
 use Prim.Native.Nat.{ℕ, zero, suc, ◌+◌, ◌<◌}

@@ -1,5 +1,5 @@
 -- The public functions on sets: each contract leaves one answer.
--- Main results: `sets_equal`, `sets_determined`, and by them a law NAME-unique for each public function NAME. Assume nothing.
+-- Main results: `sets_equal`, `sets_determined`, and by them a law NAME_unique for each public function NAME. Assume nothing.
 use mathlib.Core.Path.{◌≡◌, refl, sym, ◌∙◌}
 use mathlib.Core.Bool.{Bool, true≢false}
 use Prim.Native.Nat.{ℕ, zero, suc, ◌+◌, ◌/◌, ◌%◌, ◌^◌, ◌<◌, ◌≤◌}

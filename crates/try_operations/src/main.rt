@@ -70,16 +70,16 @@ fn show(rt: &impl Print, made: Tested) -> io::Result<()> {
 
 // The run divides as it does here: by the inverse, which is never refused.
 fn quotient(a: Fraction, b: Fraction) -> Tested
-    requires good { Good a }
-    requires good_2 { Good b }
+    requires a_good { Good a }
+    requires b_good { Good b }
 {
     fraction_product::product(a, fraction_inverse::inverted(b))
 }
 
 // One line: product, quotient, sum, difference of a and b.
 fn show_operations(rt: &impl Print, a: Fraction, b: Fraction) -> io::Result<()>
-    requires good { Good a }
-    requires good_2 { Good b }
+    requires a_good { Good a }
+    requires b_good { Good b }
 {
     show_fraction(rt, a)?;
     print!(rt; " and ")?;

@@ -1,5 +1,5 @@
 -- The signed operations: each contract leaves one answer.
--- Main results: a law NAME-unique for each public function NAME. Assume nothing.
+-- Main results: a law NAME_unique for each public function NAME. Assume nothing.
 use mathlib.Core.Path.{◌≡◌, sym, ◌∙◌}
 use Rattle.unique.specs.Twice.{Twice}
 use Rattle.whole_signed.proofs.opposite.Kinds as opposite-kinds

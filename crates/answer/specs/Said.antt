@@ -6,7 +6,7 @@ use Rattle.answer.specs.declared.Answer.TheVariants.{Entailed, NotEntailed, Cont
 
 -- 01, What comes back, the outcomes; a refusal's word carries its number
 pub data Word : Type 0 where
-  entailed not-entailed contradictory : Word
+  entailed not_entailed contradictory : Word
   refused : (number : ℕ) → Word
 
 -- 01: "An answer has a word, a place and a count of solved unknowns."
@@ -18,6 +18,6 @@ pub record Said : Type 0 where
 -- 01: place 0 for entailed and not-entailed; "The count is 0 for contradictory and every refusal."
 unfoldable pub said : Answer → Said
 said (Entailed solved) = record { word = entailed; place = 0; count = solved }
-said (NotEntailed solved) = record { word = not-entailed; place = 0; count = solved }
+said (NotEntailed solved) = record { word = not_entailed; place = 0; count = solved }
 said (Contradictory place) = record { word = contradictory; place = place; count = 0 }
 said (Refused number place) = record { word = refused number; place = place; count = 0 }

@@ -10,7 +10,7 @@ use lib.ListN.{length, get_or, get_or-replicate}
 use lib.IntN.{ℤ, pos}
 use Rattle.answer.specs.declared.Answer.{Answer}
 use Rattle.answer.specs.declared.Answer.TheVariants.{Entailed, Refused}
-use Rattle.answer.specs.Said.{Word, entailed, not-entailed, contradictory, said}
+use Rattle.answer.specs.Said.{Word, entailed, not_entailed, contradictory, said}
 use Rattle.fraction.specs.Made.{Made, made, stopped}
 use Rattle.rules_problem.specs.Problem.{Problem, decoded}
 use Rattle.rules_reading.specs.Forced.{Forced, IsContradictory, IsEntailed, IsNotEntailed}
@@ -59,7 +59,7 @@ pub says_not_entailed_fails : Fails says_not_entailed
 unfolding says_not_entailed word_of said
 says_not_entailed_fails = fails (λ meets.
     let (within, forced) = if_entailed case_i_entailed refl in
-    let word : not-entailed ≡ entailed = ((at says_not_entailed meets case_i_entailed).entailed_exactly within).1 forced in
+    let word : not_entailed ≡ entailed = ((at says_not_entailed meets case_i_entailed).entailed_exactly within).1 forced in
     let no_way : ◌≡◌ {A = ℕ} 0 1 = cc in omega arith)
 
 -- The rows built of case A's terms: f(-1/8 x) is 1 at itself, where 3/2 has 0.
@@ -95,7 +95,7 @@ writes_nothing_fails = fails (λ meets.
     apart.1 (forced apart.0))
 
 -- In case C f⁵(x)=x alone does not force f(x)=x,
-c_first_only : (said (answered (after_reading highest_number (first_only (decoded case_c.problem))))).word ≡ not-entailed
+c_first_only : (said (answered (after_reading highest_number (first_only (decoded case_c.problem))))).word ≡ not_entailed
 unfolding computed_answer case_c first_only
 c_first_only = refl
 
@@ -129,7 +129,7 @@ unfolding word_of
 truth_of {problem} answer same true-one = record {
   entailed_exactly = subst (λ a. InRange highest_number problem → ((said a).word ≡ entailed) ↔ IsEntailed problem) answer true-one.entailed_exactly;
   contradictory_exactly = subst (λ a. InRange highest_number problem → ((said a).word ≡ contradictory) ↔ IsContradictory problem) answer true-one.contradictory_exactly;
-  not_entailed_exactly = subst (λ a. InRange highest_number problem → ((said a).word ≡ not-entailed) ↔ IsNotEntailed problem) answer true-one.not_entailed_exactly;
+  not_entailed_exactly = subst (λ a. InRange highest_number problem → ((said a).word ≡ not_entailed) ↔ IsNotEntailed problem) answer true-one.not_entailed_exactly;
   range_exactly = subst (λ a. (number place : ℕ) → (a ≡ Refused number place) ↔ OutOfRange highest_number problem number place) answer true-one.range_exactly;
   rows_exactly = λ finishes.
       subst (λ x. (t u : ℕ) → t < length problem.terms → u < length problem.terms → EqualRows x t u ↔ Forced problem (record { left = t; right = u })) (same finishes)

@@ -1,8 +1,8 @@
 -- The starred cases of document 01: each with its bytes and what the decision says of it.
 -- Main definitions: `Case`, `case_a` to `case_l`, `table`, `listing_a`. Assumes nothing.
-use Rattle.std.specs.Prelude.{List, [], ◌∷◌, ℕ, zero, suc, ◌/◌, ◌%◌, ◌^◌, ◌*◌}
+use Rattle.std.specs.Prelude.{List, [], ◌∷◌, ℕ, zero, suc, ◌/◌, ◌%◌, ◌^◌}
 use Prim.Native.String.{String}
-use Rattle.answer.specs.Said.{Word, entailed, not-entailed, contradictory, Said}
+use Rattle.answer.specs.Said.{Word, entailed, not_entailed, contradictory, Said}
 
 -- `count` bytes, written as one number, most significant byte first
 unfoldable pub bytes : (count number : ℕ) → List ℕ
@@ -19,7 +19,7 @@ case problem word place count = record { problem = problem; says = record { word
 -- 01, The listing: "Case A, 38 bytes"
 unfoldable pub case_a : Case
 unfolding bytes
-case_a = case (bytes 38 0x04010102_1000000000000000_300000000FFFF300_6070100000000000_2000000000003100_0203) not-entailed 0 1
+case_a = case (bytes 38 0x04010102_1000000000000000_300000000FFFF300_6070100000000000_2000000000003100_0203) not_entailed 0 1
 
 unfoldable pub listing_a : String
 listing_a = "not-entailed 0 1\n0: +1*t0\n1: -1/8*t0\n2: +3/2\n3: +3/2\n"
@@ -47,7 +47,7 @@ case_e = case (bytes 58 0x06030000_1000000000000000_1000000000000000_60700000000
 -- x=y, f³(x)=f(x), goal f⁴(y)=f(x)
 unfoldable pub case_h : Case
 unfolding bytes
-case_h = case (bytes 80 0x09020802_1000000000000000_1000000000000000_6070000000000000_6070200000000000_6070300000000000_6070100000000000_6070500000000000_6070600000000000_6070700000000000_0001_0402) not-entailed 0 6
+case_h = case (bytes 80 0x09020802_1000000000000000_1000000000000000_6070000000000000_6070200000000000_6070300000000000_6070100000000000_6070500000000000_6070600000000000_6070700000000000_0001_0402) not_entailed 0 6
 
 -- two records of f(x), goal between them
 unfoldable pub case_i : Case
@@ -62,7 +62,7 @@ case_j = case (bytes 36 0x04000103_1000000000000000_300000000ffff300_30000000000
 -- then to gain 1 shift 3
 unfoldable pub case_j2 : Case
 unfolding bytes
-case_j2 = case (bytes 28 0x03000102_1000000000000000_300000000ffff300_3000000000001300) not-entailed 0 0
+case_j2 = case (bytes 28 0x03000102_1000000000000000_300000000ffff300_3000000000001300) not_entailed 0 0
 
 -- gain -32768 shift 15 of t, plus t, goal 0
 unfoldable pub case_k : Case
@@ -72,7 +72,7 @@ case_k = case (bytes 36 0x04000203_1000000000000000_3000000008000f00_40001000000
 -- two variables, both with symbol 9, goal between them
 unfoldable pub case_l : Case
 unfolding bytes
-case_l = case (bytes 20 0x02000001_1090000000000000_1090000000000000) not-entailed 0 0
+case_l = case (bytes 20 0x02000001_1090000000000000_1090000000000000) not_entailed 0 0
 
 unfoldable pub table : List Case
 table = case_a ∷ case_b ∷ case_c ∷ case_d ∷ case_e ∷ case_h ∷ case_i ∷ case_j ∷ case_j2 ∷ case_k ∷ case_l ∷ []

@@ -8,7 +8,7 @@ use Prim.Native.Nat.{ℕ, ◌<◌}
 use native.Mathlib.Omega.{arith}
 use lib.ListN.{get_or, replicate, length-replicate, get_or-replicate}
 use lib.IntN.{pos}
-use Rattle.answer.specs.Said.{Word, entailed, not-entailed, contradictory, refused, said}
+use Rattle.answer.specs.Said.{Word, entailed, not_entailed, contradictory, refused, said}
 use Rattle.fraction.specs.Made.{made}
 use Rattle.rules_problem.specs.Problem.{Problem, decoded}
 use Rattle.rules_reading.specs.Reading.{MeetsAll}
@@ -68,12 +68,12 @@ module _ {case : Case} {problem : Problem} {word : Word} (stated : Stated case p
       let within = inside (λ number refuses. let no_way : ◌≡◌ {A = ℕ} 0 1 = cc in omega arith) in
       (within, (tells.contradictory_exactly within).0 (says ∙ same))
 
-  pub if_not_entailed : word ≡ not-entailed → InRange highest_number problem × IsNotEntailed problem
+  pub if_not_entailed : word ≡ not_entailed → InRange highest_number problem × IsNotEntailed problem
   if_not_entailed same =
       let within = inside (λ number refuses. let no_way : ◌≡◌ {A = ℕ} 0 1 = cc in omega arith) in
       (within, (tells.not_entailed_exactly within).0 (says ∙ same))
 
-pub case_a_not_entailed : Stated case_a problem_a not-entailed
+pub case_a_not_entailed : Stated case_a problem_a not_entailed
 unfolding computed_answer case_a problem_a
 case_a_not_entailed = record { holds = refl; computes = refl }
 
@@ -89,7 +89,7 @@ pub case_d_contradictory : Stated case_d problem_d contradictory
 unfolding computed_answer case_d problem_d
 case_d_contradictory = record { holds = refl; computes = refl }
 
-case_h_not_entailed : Stated case_h problem_h not-entailed
+case_h_not_entailed : Stated case_h problem_h not_entailed
 unfolding computed_answer case_h problem_h
 case_h_not_entailed = record { holds = refl; computes = refl }
 
@@ -97,7 +97,7 @@ pub case_i_entailed : Stated case_i problem_i entailed
 unfolding computed_answer case_i problem_i
 case_i_entailed = record { holds = refl; computes = refl }
 
-pub case_j2_not_entailed : Stated case_j2 problem_j2 not-entailed
+pub case_j2_not_entailed : Stated case_j2 problem_j2 not_entailed
 unfolding computed_answer case_j2 problem_j2
 case_j2_not_entailed = record { holds = refl; computes = refl }
 

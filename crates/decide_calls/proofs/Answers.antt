@@ -4,7 +4,7 @@ use mathlib.Core.Path.{◌≡◌, refl, sym, ap, ◌∙◌}
 use Prim.Native.Nat.{ℕ}
 use Rattle.answer.specs.declared.Answer.{Answer}
 use Rattle.answer.specs.declared.Answer.TheVariants.{Entailed, NotEntailed, Contradictory, Refused}
-use Rattle.answer.specs.Said.{Word, entailed, not-entailed, contradictory, refused, Said, said}
+use Rattle.answer.specs.Said.{Word, entailed, not_entailed, contradictory, refused, Said, said}
 
 -- the answer of which this is said
 answer_of : Said → Answer
@@ -12,7 +12,7 @@ answer_of s = by s.word
   where
     by : Word → Answer
     by entailed = Entailed s.count
-    by not-entailed = NotEntailed s.count
+    by not_entailed = NotEntailed s.count
     by contradictory = Contradictory s.place
     by (refused number) = Refused number s.place
 

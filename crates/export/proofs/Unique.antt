@@ -10,7 +10,7 @@ use Rattle.list_lines.specs.Contract.{place_of, number_of}
 use Rattle.list_lines.proofs.Unique.{listed_unique}
 use Rattle.answer_numbers.specs.declared.Numbers.{Numbers}
 use Rattle.answer_numbers.specs.Numbers.{numbers_of}
-use Rattle.export.specs.Contract.{Handed, RowHanded}
+use Rattle.export.specs.Contract.{Handed}
 use Rattle.export.proofs.hamzulaph_decide.Kinds as decide-kinds
 use Rattle.export.proofs.hamzulaph_decide.Reads as decide-reads
 use Rattle.export.proofs.hamzulaph_list_row.Kinds as row-kinds

@@ -1,7 +1,6 @@
 -- The limits at case M's numbers, computed on the rules.
 -- Main result: `case_m_limits`. Assumes nothing.
 use mathlib.Core.Path.{◌≡◌, refl}
-use mathlib.Core.Bool.{Bool, true, false}
 use Prim.Native.Nat.{ℕ}
 use lib.IntN.{ℤ, pos}
 use Rattle.whole.specs.Gcd.{gcd, euclid}

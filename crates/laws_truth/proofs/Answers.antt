@@ -7,7 +7,7 @@ use Prim.Native.Nat.{ℕ}
 use native.Mathlib.Omega.{arith}
 use Rattle.answer.specs.declared.Answer.{Answer}
 use Rattle.answer.specs.declared.Answer.TheVariants.{Entailed, NotEntailed, Contradictory, Refused}
-use Rattle.answer.specs.Said.{entailed, not-entailed, said}
+use Rattle.answer.specs.Said.{entailed, not_entailed, said}
 use Rattle.fraction.specs.Limits.{Outside}
 use Rattle.fraction.specs.Made.{Made, made, stopped}
 use Rattle.rules_problem.specs.Problem.{Pair, Problem}
@@ -52,11 +52,11 @@ module _ (ranking : Ranking) (problem : Problem) (strict : Strict ranking) (soun
       by (Refused number place) ended = inr (number, place, ended, refl)
 
   -- Such an answer is neither entailed nor not-entailed.
-  pub stopped_unfinished : (answer : Answer) → run ranking problem ≡ stopped answer → ((said answer).word ≡ entailed) ⊎ ((said answer).word ≡ not-entailed) → ⊥
+  pub stopped_unfinished : (answer : Answer) → run ranking problem ≡ stopped answer → ((said answer).word ≡ entailed) ⊎ ((said answer).word ≡ not_entailed) → ⊥
   unfolding said
   stopped_unfinished answer h = by (stopped_either answer h)
     where
-      by : ((place : ℕ) × (answer ≡ Contradictory place)) ⊎ ((number : ℕ) × (place : ℕ) × Outside number × (answer ≡ Refused number place)) → ((said answer).word ≡ entailed) ⊎ ((said answer).word ≡ not-entailed) → ⊥
+      by : ((place : ℕ) × (answer ≡ Contradictory place)) ⊎ ((number : ℕ) × (place : ℕ) × Outside number × (answer ≡ Refused number place)) → ((said answer).word ≡ entailed) ⊎ ((said answer).word ≡ not_entailed) → ⊥
       by (inl (place, same)) (inl e) = let no_way : ◌≡◌ {A = ℕ} 0 1 = cc (ap (λ a. (said a).word) same) in omega arith
       by (inl (place, same)) (inr e) = let no_way : ◌≡◌ {A = ℕ} 0 1 = cc (ap (λ a. (said a).word) same) in omega arith
       by (inr (number, place, range, same)) (inl e) = let no_way : ◌≡◌ {A = ℕ} 0 1 = cc (ap (λ a. (said a).word) same) in omega arith

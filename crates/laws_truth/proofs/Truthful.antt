@@ -10,7 +10,7 @@ use lib.ListN.{length, get_or}
 use lib.IntN.{pos, nat_abs}
 use Rattle.answer.specs.declared.Answer.{Answer}
 use Rattle.answer.specs.declared.Answer.TheVariants.{Refused}
-use Rattle.answer.specs.Said.{entailed, not-entailed, contradictory, said}
+use Rattle.answer.specs.Said.{entailed, not_entailed, contradictory, said}
 use Rattle.fraction.specs.Limits.{Outside}
 use Rattle.fraction.specs.Made.{Made, made, stopped}
 use Rattle.fraction.proofs.Cross.{ℚ-path}
@@ -99,7 +99,7 @@ module _ (ranking : Ranking) (strict : Strict ranking) (problem : Problem) (soun
   run_truthful answer h = record {
     entailed_exactly = λ inside. word_exactly problem (true_word answer h inside) entailed;
     contradictory_exactly = λ inside. word_exactly problem (true_word answer h inside) contradictory;
-    not_entailed_exactly = λ inside. word_exactly problem (true_word answer h inside) not-entailed;
+    not_entailed_exactly = λ inside. word_exactly problem (true_word answer h inside) not_entailed;
     range_exactly = true_range answer h;
     rows_exactly = true_rows answer h;
     count_exactly = true_count answer h;

@@ -13,7 +13,7 @@ use lib.Pow.{pow_pos}
 use lib.IntN.{ℤ, pos, ◌*ℤ◌}
 use Rattle.whole.proofs.Ring.{mul_assoc_ℤ}
 use Rattle.fraction.specs.declared.Scaled.{Scaled}
-use Rattle.fraction.specs.Exact.{ℚ, one_ℚ, worth, ◌*ℚ◌}
+use Rattle.fraction.specs.Exact.{ℚ, one_ℚ, worth}
 use Rattle.fraction.proofs.Common.{equal_iff, equal_over, sum_over, difference_over, multiple_over}
 use Rattle.fraction.proofs.Cross.{Is, Is-unique, frac_is}
 use Rattle.fraction.proofs.Field.{times_one}

@@ -4,7 +4,7 @@
 -- Main definitions: `Program`, `NothingPresumed`, `EqualIsTrue`. Assumes nothing.
 use Rattle.std.specs.Prelude.{◌≡◌, ◌↔◌, ◌⊎◌, List, ℕ, ◌+◌, ◌*◌, ◌<◌, length, get_or, pos}
 use Rattle.answer.specs.declared.Answer.TheVariants.{Refused}
-use Rattle.answer.specs.Said.{Word, entailed, not-entailed, contradictory, refused, said}
+use Rattle.answer.specs.Said.{Word, entailed, not_entailed, contradictory, refused, said}
 use Rattle.fraction.specs.Limits.{Outside}
 use Rattle.fraction.specs.Made.{made, stopped}
 use Rattle.rules_problem.specs.Problem.{Problem, decoded}
@@ -44,7 +44,7 @@ EqualRows o t u =
     × (get_or o.left.denominators (COLUMNS * t + c) (pos 0) ≡ get_or o.left.denominators (COLUMNS * u + c) (pos 0))
 
 unfoldable pub Finished : Outcome → Type 0
-Finished o = (word_of o ≡ entailed) ⊎ (word_of o ≡ not-entailed)
+Finished o = (word_of o ≡ entailed) ⊎ (word_of o ≡ not_entailed)
 
 -- What an outcome says of a sound problem is true, and its table shows just what is forced.
 pub record Truthful (ranking : Ranking) (problem : Problem) (o : Outcome) : Type 0 where
@@ -53,7 +53,7 @@ pub record Truthful (ranking : Ranking) (problem : Problem) (o : Outcome) : Type
   -- "contradictory exactly if no reading meets them"
   pub contradictory_exactly : InRange ranking problem → (word_of o ≡ contradictory) ↔ IsContradictory problem
   -- "not-entailed otherwise"
-  pub not_entailed_exactly : InRange ranking problem → (word_of o ≡ not-entailed) ↔ IsNotEntailed problem
+  pub not_entailed_exactly : InRange ranking problem → (word_of o ≡ not_entailed) ↔ IsNotEntailed problem
   -- "Only exception: the range refusal, exactly when the run laid down makes a number too large, at that place."
   pub range_exactly : (number place : ℕ) → (o.answer ≡ Refused number place) ↔ OutOfRange ranking problem number place
   -- "In the finished table two terms have equal rows exactly if the assumptions force them equal."

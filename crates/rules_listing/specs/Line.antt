@@ -1,16 +1,16 @@
 -- The lines of a listing: the first line of an answer, and the line of a row.
 -- Main definitions: `first_line`, `row_line`. Assumes nothing.
-use Rattle.std.specs.Prelude.{true, false, cond, List, [], ◌∷◌, ◌++◌, ℕ, zero, suc, eqb, ℤ, pos, negsuc, nat_abs}
+use Rattle.std.specs.Prelude.{cond, List, [], ◌∷◌, ◌++◌, ℕ, zero, suc, eqb, ℤ, pos, negsuc, nat_abs}
 use Rattle.answer.specs.declared.Answer.{Answer}
-use Rattle.answer.specs.Said.{Word, entailed, not-entailed, contradictory, refused, Said, said}
+use Rattle.answer.specs.Said.{Word, entailed, not_entailed, contradictory, refused, said}
 use Rattle.fraction.specs.Exact.{ℚ, zero_ℚ, eq_ℚ}
-use Rattle.rules_run.specs.Row.{Row, TERMS, COLUMNS, constant, column}
+use Rattle.rules_run.specs.Row.{Row, COLUMNS, constant, column}
 use Rattle.rules_listing.specs.Text.{ascii, decimal}
 
 -- 01, The listing: "a first line: word, place, count, or `refused`, number, place"
 unfoldable pub words_of : Word → (place count : ℕ) → List ℕ
 words_of entailed place count = ascii "entailed " ++ decimal place ++ ascii " " ++ decimal count
-words_of not-entailed place count = ascii "not-entailed " ++ decimal place ++ ascii " " ++ decimal count
+words_of not_entailed place count = ascii "not-entailed " ++ decimal place ++ ascii " " ++ decimal count
 words_of contradictory place count = ascii "contradictory " ++ decimal place ++ ascii " " ++ decimal count
 words_of (refused number) place count = ascii "refused " ++ decimal number ++ ascii " " ++ decimal place
 

@@ -1,6 +1,6 @@
 -- The program's whole output, and one line of it put into a buffer: the line of a row from the lent lists, and an answer's first line.
 -- Main definitions: `listing`, `ROOM`, `list_row`, `list_first`. Assumes nothing.
-use Rattle.std.specs.Prelude.{Bool, true, false, ◌&&◌, cond, List, [], ◌∷◌, ◌++◌, ℕ, suc, ◌+◌, ◌*◌, length, take, drop, eqb, leb, ltb, ℤ, pos, nat_abs}
+use Rattle.std.specs.Prelude.{Bool, true, ◌&&◌, cond, List, [], ◌∷◌, ◌++◌, ℕ, suc, ◌+◌, ◌*◌, length, take, drop, eqb, leb, ltb, ℤ, pos, nat_abs}
 use Rattle.std.specs.Int.Signed.{le_z}
 use Rattle.whole.specs.Gcd.{gcd}
 use Rattle.answer.specs.declared.Answer.{Answer}

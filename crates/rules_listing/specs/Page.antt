@@ -1,6 +1,6 @@
 -- The whole listing of a decided problem put into a buffer: the first line and the lines of the rows, or a refusal and the buffer unchanged.
 -- Main definitions: `rows_listed`, `page_text`, `list_page`, `PAGE`. Assumes nothing.
-use Rattle.std.specs.Prelude.{Bool, true, false, ◌&&◌, cond, List, [], ◌++◌, ℕ, zero, suc, ◌+◌, ◌*◌, length, leb, ℤ}
+use Rattle.std.specs.Prelude.{Bool, true, ◌&&◌, cond, List, [], ◌++◌, ℕ, zero, suc, ◌+◌, ◌*◌, length, leb, ℤ}
 use Rattle.answer.specs.declared.Answer.{Answer}
 use Rattle.answer.specs.declared.Answer.TheVariants.{Entailed, NotEntailed, Contradictory, Refused}
 use Rattle.answer.specs.Refusals.{SPACE, ROW}

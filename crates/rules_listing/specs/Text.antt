@@ -1,7 +1,7 @@
 -- Texts as bytes, and numbers in decimal.
 -- Main definitions: `ascii`, `decimal`. Assumes nothing.
 use Rattle.std.specs.Prelude.{List, [], ◌∷◌, true, false, ℕ, zero, suc, ◌+◌, ◌/◌, ◌%◌, ltb}
-use Prim.Native.Char.{Char, code}
+use Prim.Native.Char.{code}
 use Prim.Native.String.{String, [] as end, ◌∷◌ as char-then}
 
 -- the bytes of a text

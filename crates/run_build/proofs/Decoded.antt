@@ -1,22 +1,17 @@
 -- A term that is decoded can be built.
 -- Main results: `term_buildable`, `kind_there`. Assume nothing.
-use mathlib.Core.Path.{◌≡◌, refl, ap}
-use mathlib.Core.Bool.{Bool, true, false, cond}
+use mathlib.Core.Path.{◌≡◌, ap}
 use mathlib.Core.List.{List}
-use Prim.Native.Nat.{ℕ, suc, ◌+◌, ◌-◌, ◌*◌, ◌≤◌, ◌<◌}
-use native.Mathlib.Omega.{arith}
+use Prim.Native.Nat.{ℕ, ◌+◌, ◌*◌, ◌<◌}
 use lib.ListN.{get_or}
-use lib.Dec.{ltb}
-use borrow.Author.Tests.{ltb-true, ltb-false}
-use lib.IntN.{pos, negsuc, nat_abs, ◌-ℤ◌}
 use Rattle.fraction.specs.Made.{made}
 use Rattle.fraction.specs.InRecord.{InRecord}
 use Rattle.rules_problem.specs.declared.Kind.{Kind}
 use Rattle.rules_problem.specs.declared.Kind.TheVariants.{Variable}
 use Rattle.rules_problem.specs.declared.Term.{Term}
-use Rattle.rules_problem.specs.Bits.{field, signed16}
+use Rattle.rules_problem.specs.Bits.{field}
 use Rattle.rules_problem.specs.Lookup.{kind_at}
-use Rattle.rules_problem.specs.Record.{Fields, fields_at, scaled}
+use Rattle.rules_problem.specs.Record.{Fields, scaled}
 use Rattle.rules_problem.proofs.Recorded.{EachBelow, Recorded, variable, constant, gain, sum, difference, lookup1, lookup2, lookup3, term_recorded}
 use Rattle.rules_problem.specs.Problem.{Problem, term_at, decoded}
 use Rattle.rules_problem.proofs.Holding.{term_there}

@@ -1,7 +1,7 @@
 -- The sets after a merge, and where lookups are noted pair by pair.
 -- Main results: `Ready`, `ready_of`, `serves`, `ready_merged`, `ready_kept`, `ready_woken`, `ready_shut`, `merged_awake`, `shut_watched`, `woken_watched`. Assume nothing.
 use mathlib.Core.Path.{◌≡◌, refl, sym, ap, ap₂, ◌∙◌, subst}
-use mathlib.Core.Logic.{◌≢◌, ◌⊎◌, inl, inr}
+use mathlib.Core.Logic.{◌⊎◌, inl, inr}
 use mathlib.Core.Bool.{Bool, true, false, not, ◌&&◌, ◌||◌, false≢true, and-eq-true_iff, or-true}
 use mathlib.Core.List.{List, []}
 use Prim.Native.Nat.{ℕ, ◌*◌, ◌≤◌, ◌<◌}

@@ -1,11 +1,9 @@
 -- `run_assume::assume_all` meets its contract. Assumes nothing.
 use Rattle.std.proofs.Common.{rules}
 use Rattle.std.proofs.Common.{arith}
-use Prim.Native.Nat.{◌+◌, ◌-◌, ◌≤◌}
-use Rattle.run_table.specs.Work.{lent}
+use Prim.Native.Nat.{◌≤◌}
 use Rattle.rules_problem.proofs.Holding.{holding}
-use Rattle.run_assume.specs.Contract.{assumed_by}
-use Rattle.run_assume.proofs.All.{AssumedOne, assuming_starts, sides_below_lem, assuming_ends, assuming_turned}
+use Rattle.run_assume.proofs.All.{assuming_starts, sides_below_lem, assuming_ends, assuming_turned}
 use Rattle.run_assume.proofs.assume_all.Goals as goal
 
 pub loop-k-init : goal.loop-k-init

@@ -1,7 +1,5 @@
 -- `run_build::build` meets its contract. Assumes nothing.
-use Prim.Native.Nat.{◌-◌, ◌<◌}
 use Rattle.run_build.proofs.Rows.{rising_starts, rising_reads, rising_notes, rising_links, rising_rows, rising_goes_on, rising_stops, rising_ends}
-use Rattle.std.proofs.Common.{rules}
 use Rattle.run_build.proofs.build.Goals as goal
 
 pub loop-t-init : goal.loop-t-init

@@ -1,14 +1,11 @@
 -- `run_close::close` meets its contract. Assumes nothing.
 use Rattle.std.proofs.Common.{rules}
 use mathlib.Core.Path.{◌≡◌, sym}
-use Prim.Native.Nat.{◌-◌}
 use Rattle.std.proofs.Common.{arith}
 use lib.ListN.{length}
 use Rattle.run_table.specs.Sets.{pending_of, open_of}
-use Rattle.run_table.specs.Work.{lent}
-use Rattle.run_merge.specs.Contract.{left_by}
 use Rattle.run_due_pair.specs.Contract.{waiting_by}
-use Rattle.run_close.proofs.Turns.{Turned, closing_idle, closing_starts, closing_ends, closing_searches, closing_over, pair_below, closing_merges, closing_merged}
+use Rattle.run_close.proofs.Turns.{closing_idle, closing_starts, closing_ends, closing_searches, closing_over, pair_below, closing_merges, closing_merged}
 use Rattle.run_close.proofs.close.Goals as goal
 
 pub returns-then-sets-eq0 : goal.returns-then-sets-eq0

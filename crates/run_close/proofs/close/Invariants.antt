@@ -1,5 +1,4 @@
 -- `run_close::close` meets its contract. Assumes nothing.
-use Prim.Native.Nat.{◌-◌}
 use Rattle.run_close.proofs.Turns.{Closing}
 use Rattle.run_close.proofs.close.Given as goal
 

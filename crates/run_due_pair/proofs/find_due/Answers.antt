@@ -1,6 +1,5 @@
 -- `run_due_pair::find_due` meets its contract. Assumes nothing.
 use Rattle.std.proofs.Common.{rules}
-use Prim.Native.Nat.{◌-◌}
 use Rattle.run_due_pair.proofs.Steps.{searching_starts, searching_found, searching_on, searching_over}
 use Rattle.run_due_pair.proofs.find_due.Goals as goal
 

@@ -1,6 +1,5 @@
 -- `run_due_pair::left_due` meets its contract. Assumes nothing.
 use Rattle.std.proofs.Common.{rules}
-use Prim.Native.Nat.{◌-◌}
 use Rattle.run_due_pair.proofs.Steps.{choosing_starts, choosing_found, choosing_less, choosing_on, choosing_over}
 use Rattle.run_due_pair.proofs.left_due.Goals as goal
 

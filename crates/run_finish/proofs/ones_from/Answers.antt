@@ -1,11 +1,9 @@
 -- `run_finish::ones_from` meets its contract: the fills of the rows are one fill. Assumes nothing.
-use Rattle.run_fill.specs.Contract.{Filled}
 use Rattle.run_fill.proofs.Filling.{filling_starts, fills_join}
-use Rattle.rules_run.specs.Row.{TERMS, COLUMNS, PLACES}
+use Rattle.rules_run.specs.Row.{COLUMNS, PLACES}
 use Rattle.std.proofs.Common.{arith}
 use mathlib.Core.Path.{◌≡◌}
-use Prim.Native.Nat.{ℕ, ◌+◌, ◌-◌, ◌*◌, ◌≤◌}
-use lib.IntN.{ℤ, pos}
+use Prim.Native.Nat.{◌+◌, ◌*◌}
 use Rattle.std.proofs.Common.{rules}
 use Rattle.run_finish.proofs.ones_from.Goals as goal
 

@@ -1,6 +1,5 @@
 -- `run_build::links::note_users` meets its contract. Assumes nothing.
 use Rattle.run_build.proofs.Linking.{using_starts, using_asks, using_more, using_ends}
-use Prim.Native.Nat.{◌-◌}
 use Rattle.run_build.proofs.links.note_users.Goals as goal
 
 pub loop-i-init : goal.loop-i-init

@@ -1,12 +1,12 @@
 -- `run_close::wake::wake` meets its contract. Assumes nothing.
 use Rattle.std.proofs.Common.{rules}
 use mathlib.Core.List.{List}
-use Prim.Native.Nat.{ℕ, ◌+◌, ◌-◌, ◌<◌}
+use Prim.Native.Nat.{ℕ, ◌+◌, ◌<◌}
 use Rattle.std.proofs.Common.{arith}
 use Rattle.set_extremes.specs.Extremes.{Next, Rest}
 use Rattle.set_extremes.proofs.Taken.{From, from_starts, from_first, from_here, from_rest}
 use Rattle.run_table.specs.Sets.{pending_of, open_of}
-use Rattle.run_close.proofs.Waking.{Waking, grown_itself, waking_skips, waking_more, woken_ends, woken_idle}
+use Rattle.run_close.proofs.Waking.{grown_itself, waking_skips, waking_more, woken_ends, woken_idle}
 use Rattle.run_close.proofs.wake.wake.Invariants.{WakingOn}
 use Rattle.run_close.proofs.wake.wake.Goals as goal
 

@@ -1,5 +1,4 @@
 -- `try_reader::each_line` ends: the text left falls at each line. Assumes nothing.
-use Prim.Native.Nat.{◌-◌}
 use Rattle.std.proofs.Common.{arith}
 use Rattle.try_reader.proofs.each_line.Goals as goal
 

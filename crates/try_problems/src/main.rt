@@ -4,6 +4,8 @@
 // it stands.
 #![tactic(auto)]
 
+ghost use Rattle.std.specs.Prelude.{◌≤◌, length, IfOk};
+
 use answer::Answer;
 use list_lines::Reached;
 use list_page::PAGE;
@@ -12,7 +14,7 @@ use std::io;
 use std::io::{Read, Write};
 
 // As much of the text is read.
-const TEXT: u64 = 131072;
+const TEXT: usize = 131072;
 
 // 645 bytes are enough to judge any length.
 const INPUT: usize = 1024;
@@ -234,10 +236,25 @@ fn each_line(rt: &impl Print, text: &[u8], nums: &mut [i32], dens: &mut [i32]) -
     Ok(())
 }
 
+// Reads until the buffer is full or the input ends, and answers how many bytes it put at the buffer's start.
+fn read_full(input: &mut impl io::Read, buf: &mut [u8]) -> io::Result<usize>
+    ensures { IfOk result (λ n. n ≤ length buf.new) }
+{
+    let mut done = 0;
+    while done < buf.len() {
+        let got = input.read(&mut buf[done..])?;
+        if got == 0 {
+            break;
+        }
+        done += got;
+    }
+    Ok(done)
+}
+
 fn main(rt: HostRuntime) -> io::Result<()> {
-    let mut text = Vec::new(rt.alloc());
-    rt.stdin().take(TEXT).read_to_end(&mut text)?;
+    let mut text = [0u8; TEXT];
+    let n = read_full(&mut rt.stdin(), &mut text)?;
     let mut nums = [0i32; PLACES];
     let mut dens = [0i32; PLACES];
-    each_line(&rt, &text, &mut nums, &mut dens)
+    each_line(&rt, &text[..n], &mut nums, &mut dens)
 }

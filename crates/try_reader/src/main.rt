@@ -2,6 +2,8 @@
 // the header of the problem that it holds, or the refusal's number and place.
 #![tactic(auto)]
 
+ghost use Rattle.std.specs.Prelude.{◌≤◌, length, IfOk};
+
 use record_reader::Read;
 use std::io;
 use std::io::Read as _;
@@ -10,7 +12,7 @@ use std::io::Read as _;
 const INPUT: usize = 1024;
 
 // As much of the text is read.
-const TEXT: u64 = 65536;
+const TEXT: usize = 65536;
 
 fn number(rt: &impl Print, n: usize) -> io::Result<()> {
     print!(rt; " {n}")
@@ -54,8 +56,23 @@ fn each_line(rt: &impl Print, text: &[u8]) -> io::Result<()> {
     Ok(())
 }
 
+// Reads until the buffer is full or the input ends, and answers how many bytes it put at the buffer's start.
+fn read_full(input: &mut impl io::Read, buf: &mut [u8]) -> io::Result<usize>
+    ensures { IfOk result (λ n. n ≤ length buf.new) }
+{
+    let mut done = 0;
+    while done < buf.len() {
+        let got = input.read(&mut buf[done..])?;
+        if got == 0 {
+            break;
+        }
+        done += got;
+    }
+    Ok(done)
+}
+
 fn main(rt: HostRuntime) -> io::Result<()> {
-    let mut text = Vec::new(rt.alloc());
-    rt.stdin().take(TEXT).read_to_end(&mut text)?;
-    each_line(&rt, &text)
+    let mut text = [0u8; TEXT];
+    let n = read_full(&mut rt.stdin(), &mut text)?;
+    each_line(&rt, &text[..n])
 }

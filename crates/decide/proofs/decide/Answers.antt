@@ -13,11 +13,11 @@ pub returns-then-dens-lt-PLACES : goal.returns-then-dens-lt-PLACES
 unfolding SPACE
 returns-then-dens-lt-PLACES c = decided_short_denominators (search rules) c.if-dens-lt-PLACES.true
 
-pub decide_sound-requires : goal.decide_sound-requires
-decide_sound-requires c = record { sound = sym c.read_problem.ensures ∙ c.in-Sound.is; long = record { numerators = search rules; denominators = search rules } }
-
 pub returns-in-Sound : goal.returns-in-Sound
 returns-in-Sound c = decided_sound (record { numerators = search rules; denominators = search rules }) c.decide_sound.ensures
 
 pub returns-in-Refused : goal.returns-in-Refused
 returns-in-Refused c = decided_unread (record { numerators = search rules; denominators = search rules }) (sym c.read_problem.ensures ∙ c.in-Refused.is)
+
+pub decide_sound-requires : goal.decide_sound-requires
+decide_sound-requires c = record { sound = sym c.read_problem.ensures ∙ c.in-Sound.is; long = record { numerators = search rules; denominators = search rules } }

@@ -31,20 +31,6 @@ mantissa_small h = omega (arith, h.mantissa)
 mantissa_fits : {s : Scaled} → InRecord s → SFits w32 s.mantissa
 mantissa_fits {s} h = fits_size w32 s.mantissa (omega (arith, h.mantissa))
 
-pub lowest-terms-requires : goal.lowest-terms-requires
-lowest-terms-requires c = rw c.power.ensures (pow_pos c.args.s.shift)
-
-pub made-requires : goal.made-requires
-made-requires c =
-    let s = c.args.s in
-    let common = gcd (nat_abs s.mantissa) (2 ^ s.shift) in
-    let top = c.size.ensures ∙ ap nat_abs (to_z-of_z {w = w32} (mantissa_fits c.requires)) in
-    let terms : InLowest (nat_abs s.mantissa) (2 ^ s.shift) c.lowest-terms.result = rw (top, c.power.ensures) at c.lowest-terms.ensures in
-    record {
-      above = omega (arith, terms.above, div-le_self (nat_abs s.mantissa) common, mantissa_small c.requires);
-      below = omega (arith, terms.below, div-le_self (2 ^ s.shift) common, power_small s.shift c.requires.shift);
-    }
-
 pub returns : goal.returns
 unfolding worth
 returns c =
@@ -58,3 +44,17 @@ returns c =
     (c.made.ensures.below ∙ ap pos terms.below)
     (mantissa_small c.requires)
     (power_small s.shift c.requires.shift)
+
+pub lowest-terms-requires : goal.lowest-terms-requires
+lowest-terms-requires c = rw c.power.ensures (pow_pos c.args.s.shift)
+
+pub made-requires : goal.made-requires
+made-requires c =
+    let s = c.args.s in
+    let common = gcd (nat_abs s.mantissa) (2 ^ s.shift) in
+    let top = c.size.ensures ∙ ap nat_abs (to_z-of_z {w = w32} (mantissa_fits c.requires)) in
+    let terms : InLowest (nat_abs s.mantissa) (2 ^ s.shift) c.lowest-terms.result = rw (top, c.power.ensures) at c.lowest-terms.ensures in
+    record {
+      above = omega (arith, terms.above, div-le_self (nat_abs s.mantissa) common, mantissa_small c.requires);
+      below = omega (arith, terms.below, div-le_self (2 ^ s.shift) common, power_small s.shift c.requires.shift);
+    }

@@ -7,8 +7,8 @@ pub returns-then-not-has_room : goal.returns-then-not-has_room
 unfolding SPACE
 returns-then-not-has_room c = search first_refused
 
-pub put_first-requires : goal.put_first-requires
-put_first-requires c = search first_ready
-
 pub returns : goal.returns
 returns c = search (first_listed, first_ready)
+
+pub put_first-requires : goal.put_first-requires
+put_first-requires c = search first_ready

@@ -19,15 +19,15 @@ pub returns-then-t-ge-TERMS : goal.returns-then-t-ge-TERMS
 unfolding ROW
 returns-then-t-ge-TERMS c = search refused_term
 
-pub all_fractions-requires : goal.all_fractions-requires
-all_fractions-requires c = search row_held_lem
-
 pub returns-then-not-all_fractions : goal.returns-then-not-all_fractions
 unfolding ROW
 returns-then-not-all_fractions c = search refused_places
 
-pub put_row-requires : goal.put_row-requires
-put_row-requires c = search row_ready
-
 pub returns : goal.returns
 returns c = search (row_listed, row_ready)
+
+pub all_fractions-requires : goal.all_fractions-requires
+all_fractions-requires c = search row_held_lem
+
+pub put_row-requires : goal.put_row-requires
+put_row-requires c = search row_ready

@@ -7,11 +7,11 @@ use Rattle.list_pieces.proofs.put_pieces.Goals as goal
 pub loop-c-init : goal.loop-c-init
 loop-c-init c = pieces_none _ _ _ _ _
 
-pub put_piece-next-requires : goal.put_piece-next-requires
-put_piece-next-requires c = search (piece_ready, kept w32)
-
 pub loop-c-preserved : goal.loop-c-preserved
 loop-c-preserved c = search (pieces_more, kept w32)
 
 pub returns : goal.returns
 returns c = search pieces_end
+
+pub put_piece-next-requires : goal.put_piece-next-requires
+put_piece-next-requires c = search (piece_ready, kept w32)

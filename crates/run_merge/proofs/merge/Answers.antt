@@ -3,15 +3,15 @@ use Rattle.run_table.specs.Sets.{columns_of}
 use Rattle.run_merge.proofs.Steps.{zeros_within, merge_subtracts, merge_settles, difference_made, difference_refused}
 use Rattle.run_merge.proofs.merge.Goals as goal
 
+pub returns-in-Done : goal.returns-in-Done
+returns-in-Done c = search difference_made
+
+pub returns-in-Refused : goal.returns-in-Refused
+returns-in-Refused c = search difference_refused
+
 pub difference-requires : goal.difference-requires
 unfolding columns_of
 difference-requires c = merge_subtracts c.requires c.union-set.result c.union-set.ensures
 
 pub settle-requires : goal.settle-requires
 settle-requires c = merge_settles c.requires c.difference.ensures zeros_within
-
-pub returns-in-Done : goal.returns-in-Done
-returns-in-Done c = search difference_made
-
-pub returns-in-Refused : goal.returns-in-Refused
-returns-in-Refused c = search difference_refused

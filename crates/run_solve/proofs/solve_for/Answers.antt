@@ -3,11 +3,11 @@ use Rattle.std.proofs.Common.{arith}
 use Rattle.run_solve.proofs.Forms.{form_reads, form_asks, form_made}
 use Rattle.run_solve.proofs.solve_for.Goals as goal
 
+pub returns : goal.returns
+returns c = search form_made
+
 pub factor_of-factor-requires : goal.factor_of-factor-requires
 factor_of-factor-requires c = search (form_reads, arith)
 
 pub scale_columns-requires : goal.scale_columns-requires
 scale_columns-requires c = search form_asks
-
-pub returns : goal.returns
-returns c = search form_made

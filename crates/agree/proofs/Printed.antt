@@ -1,5 +1,6 @@
 -- What is written for a byte string is the listing that the rules lay down for it.
--- Main results: `outcome_listed`, `short_listed`, `calls_print`. Assume nothing.
+-- Main results: `outcome_listed`, `short_listed`, `calls_list`, `calls_print`. Assume nothing.
+use Rattle.std.specs.Prelude.{Result, Ok, Err, IsOk}
 use mathlib.Core.Path.{◌≡◌, refl, sym, ap, ◌∙◌}
 use mathlib.Core.Bool.{Bool, true, false, cond}
 use mathlib.Core.List.{List}
@@ -9,10 +10,11 @@ use lib.ListN.{length, take, drop}
 use lib.Seq.{take_at}
 use Rattle.answer.specs.declared.Answer.{Answer}
 use Rattle.answer.specs.declared.Answer.TheVariants.{Entailed, NotEntailed, Contradictory, Refused}
-use Rattle.answer.specs.Refusals.{Refusal, SPACE}
+use Rattle.answer.specs.declared.Refusal.{Refusal}
+use Rattle.answer.specs.declared.Reason.TheVariants as reason
 use Rattle.fraction.specs.Made.{Made, made, stopped}
 use Rattle.rules_problem.specs.Bits.{field}
-use Rattle.rules_problem.specs.Problem.{Pair, Problem, refuse, decoded}
+use Rattle.rules_problem.specs.Problem.{Pair, Problem, decoded}
 use Rattle.rules_problem.proofs.Holding.{terms_count}
 use Rattle.laws_valuation.specs.Sound.{Sound}
 use Rattle.laws_valuation.proofs.Decoded.{decoded_sound}
@@ -29,8 +31,6 @@ use Rattle.decide.specs.Decided.{Decided}
 use Rattle.rules_listing.specs.Line.{first_line}
 use Rattle.rules_listing.specs.Listing.{listed, listing, put_at, Listed, ROOM}
 use Rattle.rules_listing.specs.Page.{rows_listed, list_page, PAGE}
-use Rattle.list_lines.specs.declared.Reached.{Reached}
-use Rattle.list_lines.specs.declared.Reached.TheVariants as reach
 use Rattle.list_lines.specs.Contract.{reached_of, listed_by, place_of}
 use Rattle.list_page.specs.Contract.{Paged}
 use Rattle.agree.specs.Contract.{Prints}
@@ -43,7 +43,7 @@ unfolding Ended rows_listed
 stopped_rows problem (Entailed solved) n ended = absurd ended
 stopped_rows problem (NotEntailed solved) n ended = absurd ended
 stopped_rows problem (Contradictory place) n ended = refl
-stopped_rows problem (Refused number place) n ended = refl
+stopped_rows problem (Refused why place) n ended = refl
 
 -- and that of a finished run has all.
 module _ (goal : Pair) (state : State) where
@@ -62,12 +62,12 @@ module _ (ranking : Ranking) (strict : Strict ranking) (bytes : List ℕ) (lent 
 
   unread_listed : (refusal : Refusal) → ROOM ≤ length buffer → page_for (after (unread refusal) lent) ≡ put (listed (unread refusal)) 0 buffer
   unfolding list_page listed after answered rows_listed
-  unread_listed refusal room = first_alone _ _ (Refused refusal.number refusal.place) (field bytes 0 8) buffer refl room
+  unread_listed refusal room = first_alone _ _ (Refused refusal.reason refusal.place) (field bytes 0 8) buffer refl room
 
   -- Lists that are too short: the first line of refusal 1.
-  pub short_listed : is_long lent ≡ false → ROOM ≤ length buffer → page_for (outcome ranking bytes lent) ≡ put (first_line (Refused SPACE 0)) 0 buffer
+  pub short_listed : is_long lent ≡ false → ROOM ≤ length buffer → page_for (outcome ranking bytes lent) ≡ put (first_line (Refused reason.Space 0)) 0 buffer
   unfolding listed answered
-  short_listed short room = ap page_for (outcome_short ranking bytes lent short) ∙ unread_listed (record { number = SPACE; place = 0 }) room
+  short_listed short room = ap page_for (outcome_short ranking bytes lent short) ∙ unread_listed (record { reason = reason.Space; place = 0 }) room
 
   module _ (long : Long lent) (room : PAGE ≤ length buffer) where
     module _ (problem : Problem) (read : decoded bytes ≡ made problem) where
@@ -111,22 +111,38 @@ unfolding put_at
 take_put text buffer = take_at text (drop (0 + length text) buffer) (0 + length text) (omega arith)
 
 -- Where a text was put from the start, the place answered is its end.
-reached_end : (r : Reached) (end : ℕ) → reached_of r ≡ made end → place_of r ≡ end
-unfolding reached_of place_of refuse
-reached_end (reach.At place) end same = let step : ◌≡◌ {A = Made Refusal ℕ} (made place) (made end) = same in cc
-reached_end (reach.Refused number place) end same = let no_way : ◌≡◌ {A = ℕ} 0 1 = cc in absurd (omega arith)
+reached_end : (r : Result ℕ Refusal) (end : ℕ) → reached_of r ≡ made end → r ≡ Ok end
+unfolding reached_of
+reached_end (Ok place) end same = ap Ok cc
+reached_end (Err why) end same = cc
 
--- From the contracts of `decide::decide` and `list_page::listing_of` alone: the bytes that a program writes which calls the one, with lists that
--- are long enough, and then the other, with what the first left and a buffer of 133,120 bytes, are the rules' listing.
-pub calls_print : {bytes : List ℕ} {lent left : Lent} {answer : Answer} {before text : List ℕ} {r : Reached} → Long lent → PAGE ≤ length before
-    → Decided bytes lent (comes_back answer left) → Paged left.numerators left.denominators bytes answer before text r → Prints bytes text (place_of r)
-unfolding put listed_by
-calls_print {bytes} {lent} {left} {answer} {before} {text} {r} long room decided lists =
-    let lines = listing highest_number bytes in
-    let page : list_page left.numerators left.denominators bytes answer before ≡ put lines 0 before =
-    ap (λ o. list_page o.left.numerators o.left.denominators bytes o.answer before) (sym decided.rules) ∙ outcome_listed highest_number highest_number_strict bytes lent before long room
-    in
-    let listed-so = lists.answers ∙ page in
-    let reached : place_of r ≡ 0 + length lines = reached_end r _ (ap (λ l. l.reached) listed-so) in
-    let written : text ≡ put_at 0 lines before = ap (λ l. l.buffer) listed-so in
-    record { within = lists.within; printed = rw (reached, written) (take_put lines before) }
+-- From the contracts of `decide::decide` and `list_page::listing_of` alone: where a program calls the one, with lists that are long enough, and
+-- then the other, with what the first left and a buffer of 133,120 bytes,
+module _ {bytes : List ℕ} {lent left : Lent} {answer : Answer} {before text : List ℕ} {r : Result ℕ Refusal} (long : Long lent) (room : PAGE ≤ length before)
+    (decided : Decided bytes lent (comes_back answer left)) (lists : Paged left.numerators left.denominators bytes answer before text r) where
+  lines : List ℕ
+  lines = listing highest_number bytes
+
+  put_so : listed_by r text ≡ put lines 0 before
+  unfolding lines
+  put_so =
+      lists.answers
+      ∙ ap (λ o. list_page o.left.numerators o.left.denominators bytes o.answer before) (sym decided.rules)
+      ∙ outcome_listed highest_number highest_number_strict bytes lent before long room
+
+  reached : r ≡ Ok (0 + length lines)
+  unfolding put listed_by
+  reached = reached_end r _ (ap (λ l. l.reached) put_so)
+
+  -- the listing is not refused,
+  pub calls_list : IsOk r
+  calls_list = rw reached refl
+
+  -- and the bytes before its end are the rules' listing.
+  pub calls_print : {end : ℕ} → r ≡ Ok end → Prints bytes text end
+  unfolding put listed_by place_of lines
+  calls_print {end} is =
+      let both : ◌≡◌ {A = Result ℕ Refusal} (Ok end) (Ok (0 + length lines)) = sym is ∙ reached in
+      let same : end ≡ 0 + length lines = cc in
+      let written : text ≡ put_at 0 lines before = ap (λ l. l.buffer) put_so in
+      record { within = rw is at lists.within; printed = rw (same, written) (take_put lines before) }

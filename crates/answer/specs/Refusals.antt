@@ -1,32 +1,15 @@
 -- The refusals and their numbers: 01, What comes back, the table's first column.
--- Main definitions: `SPACE` to `ROW`. Assumes nothing.
+-- Main definition: `number_of`. Assumes nothing.
 use Rattle.std.specs.Prelude.{ℕ}
+use Rattle.answer.specs.declared.Reason.{Reason}
+use Rattle.answer.specs.declared.Reason.TheVariants as reason
 
-unfoldable pub SPACE : ℕ
-SPACE = 1
-
-unfoldable pub SHORT : ℕ
-SHORT = 2
-
-unfoldable pub COUNT : ℕ
-COUNT = 3
-
-unfoldable pub LENGTH : ℕ
-LENGTH = 4
-
-unfoldable pub TERM : ℕ
-TERM = 5
-
-unfoldable pub PAIR : ℕ
-PAIR = 6
-
-unfoldable pub RANGE : ℕ
-RANGE = 7
-
-unfoldable pub ROW : ℕ
-ROW = 8
-
--- A refusal with its place.
-pub record Refusal : Type 0 where
-  pub number : ℕ
-  pub place : ℕ
+unfoldable pub number_of : Reason → ℕ
+number_of reason.Space = 1
+number_of reason.Short = 2
+number_of reason.Count = 3
+number_of reason.Length = 4
+number_of reason.Term = 5
+number_of reason.Pair = 6
+number_of reason.Range = 7
+number_of reason.Row = 8

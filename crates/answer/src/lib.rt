@@ -1,28 +1,65 @@
-// The answer of a decision.
+// The answer of a decision, and why one is refused.
 #![tactic(auto)]
 
-// Entailed and NotEntailed carry the count of solved unknowns, Contradictory its place, Refused its number and place.
-#[derive(Clone, Copy)]
+ghost use Rattle.std.specs.Prelude.{◌≡◌};
+ghost use Rattle.answer.specs.Refusals.{number_of};
+ghost use Rattle.answer.specs.declared.Answer.TheVariants.{Refused};
+
+// 01, What comes back: the refusals by their names.
+#[derive(Clone, Copy, Debug, PartialEq, Eq)]
+pub enum Reason {
+    Space,
+    Short,
+    Count,
+    Length,
+    Term,
+    Pair,
+    Range,
+    Row,
+}
+
+impl Reason {
+    // 01, What comes back: the number of a refusal.
+    #[tactic(auto, unfolding(crate::specs::Refusals::number_of))]
+    pub fn number(self) -> u8
+        ensures { result ≡ number_of self }
+    {
+        match self {
+            Reason::Space => 1,
+            Reason::Short => 2,
+            Reason::Count => 3,
+            Reason::Length => 4,
+            Reason::Term => 5,
+            Reason::Pair => 6,
+            Reason::Range => 7,
+            Reason::Row => 8,
+        }
+    }
+}
+
+// A refusal with its place.
+#[derive(Clone, Copy, Debug, PartialEq, Eq)]
+pub struct Refusal {
+    pub reason: Reason,
+    pub place: usize,
+}
+
+// Entailed and NotEntailed carry the count of solved unknowns, Contradictory its place, Refused its reason, which has a number, and place.
+#[derive(Clone, Copy, Debug, PartialEq, Eq)]
 pub enum Answer {
     Entailed { solved: usize },
     NotEntailed { solved: usize },
     Contradictory { place: usize },
-    Refused { number: u8, place: usize },
+    Refused { reason: Reason, place: usize },
 }
 
-// 01, What comes back: the refusals by their numbers.
-pub const SPACE: u8 = 1;
+impl From<Refusal> for Answer {
+    ghost from_gives = { λ refusal answer. answer ≡ Refused refusal.reason refusal.place };
 
-pub const SHORT: u8 = 2;
-
-pub const COUNT: u8 = 3;
-
-pub const LENGTH: u8 = 4;
-
-pub const TERM: u8 = 5;
-
-pub const PAIR: u8 = 6;
-
-pub const RANGE: u8 = 7;
-
-pub const ROW: u8 = 8;
+    fn from(refusal: Refusal) -> Answer {
+        Answer::Refused {
+            reason: refusal.reason,
+            place: refusal.place,
+        }
+    }
+}

@@ -7,7 +7,7 @@ ghost use Rattle.answer_numbers.specs.Numbers.{numbers_of};
 use answer::Answer;
 
 // The number of its word, the number of a refusal, and its count or place.
-#[derive(Drop)]
+#[derive(Clone, Copy, Debug, PartialEq, Eq)]
 pub struct Numbers {
     pub word: u8,
     pub number: u8,
@@ -15,6 +15,7 @@ pub struct Numbers {
 }
 
 // An answer by its three numbers.
+#[tactic(auto, unfolding(crate::specs::Numbers::numbers_of))]
 pub fn in_numbers(answer: Answer) -> Numbers
     ensures { result ≡ numbers_of answer }
 {
@@ -34,10 +35,18 @@ pub fn in_numbers(answer: Answer) -> Numbers
             number: 0,
             figure: place,
         },
-        Answer::Refused { number, place } => Numbers {
+        Answer::Refused { reason, place } => Numbers {
             word: 3,
-            number: number,
+            number: reason.number(),
             figure: place,
         },
+    }
+}
+
+impl From<Answer> for Numbers {
+    ghost from_gives = { λ answer numbers. numbers ≡ numbers_of answer };
+
+    fn from(answer: Answer) -> Numbers {
+        in_numbers(answer)
     }
 }

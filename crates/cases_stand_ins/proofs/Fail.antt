@@ -8,6 +8,7 @@ use Prim.Native.Nat.{ℕ, ◌+◌, ◌*◌, ◌<◌}
 use native.Mathlib.Omega.{arith}
 use lib.ListN.{length, get_or, get_or-replicate}
 use lib.IntN.{ℤ, pos}
+use Rattle.answer.specs.declared.Reason.{Reason}
 use Rattle.answer.specs.declared.Answer.{Answer}
 use Rattle.answer.specs.declared.Answer.TheVariants.{Entailed, Refused}
 use Rattle.answer.specs.Said.{Word, entailed, not_entailed, contradictory, said}
@@ -45,14 +46,14 @@ fails {program} untrue = record { truth = untrue; rules = λ same. untrue (presu
 -- What demand 2 would say of a program at a case.
 at : (program : Program) → EqualIsTrue highest_number program → {case : Case} {problem : Problem} {word : Word} → Stated case problem word → Truthful highest_number problem (program case.problem zero_lists)
 unfolding EqualIsTrue
-at program meets {case} {problem} stated = meets case.problem zero_lists problem zero_lists_long stated.holds
+at _ meets {case} {problem} stated = meets case.problem zero_lists problem zero_lists_long stated.holds
 
--- Case J's second goal is in range, so demand 2 asks for no refusal, whatever its number and place.
-pub refuses_all_fails : (number place : ℕ) → Fails (refuses_all number place)
+-- Case J's second goal is in range, so demand 2 asks for no refusal, whatever its reason and place.
+pub refuses_all_fails : (why : Reason) (place : ℕ) → Fails (refuses_all why place)
 unfolding refuses_all InRange
-refuses_all_fails number place = fails (λ meets.
+refuses_all_fails why place = fails (λ meets.
     let (within, apart) = if_not_entailed case_j2_not_entailed refl in
-    within number place (((at (refuses_all number place) meets case_j2_not_entailed).range_exactly number place).0 refl))
+    within why place (((at (refuses_all why place) meets case_j2_not_entailed).range_exactly why place).0 refl))
 
 -- In case I every reading gives both records of f(x) one number, so demand 2 asks for entailed.
 pub says_not_entailed_fails : Fails says_not_entailed
@@ -60,7 +61,7 @@ unfolding says_not_entailed word_of said
 says_not_entailed_fails = fails (λ meets.
     let (within, forced) = if_entailed case_i_entailed refl in
     let word : not_entailed ≡ entailed = ((at says_not_entailed meets case_i_entailed).entailed_exactly within).1 forced in
-    let no_way : ◌≡◌ {A = ℕ} 0 1 = cc in omega arith)
+    cc)
 
 -- The rows built of case A's terms: f(-1/8 x) is 1 at itself, where 3/2 has 0.
 a_unfolded : ((cell (rows_built (decoded case_a.problem)) 2 2).num ≡ pos 1) × ((cell (rows_built (decoded case_a.problem)) 3 2).num ≡ pos 0)
@@ -76,7 +77,7 @@ leaves_unfolded_fails = fails (λ meets.
     let same : pos 1 ≡ pos 0 =
     sym a_unfolded.0 ∙ sym (laid_out_at g zero_lists.numerators 2 2 zero_lists_long.numerators (omega arith) (omega arith)) ∙ (shows 2 (omega arith)).0 ∙ laid_out_at g zero_lists.numerators 3 2 zero_lists_long.numerators (omega arith) (omega arith) ∙ a_unfolded.1
     in
-    let no_way : ◌≡◌ {A = ℕ} 0 1 = cc in omega arith)
+    cc)
 
 -- Lent lists of zeros show any two terms with equal rows,
 zeros_equal : (t u : ℕ) → t < TERMS → u < TERMS → EqualRows (record { answer = Entailed 0; left = zero_lists }) t u
@@ -106,7 +107,7 @@ merges_first_only_fails = fails (λ meets.
     let (within, forced) = if_entailed case_c_entailed refl in
     let word = ((at merges_first_only meets case_c_entailed).entailed_exactly within).1 forced in
     let answers = ap (λ a. (said a).word) (after_answer (after_reading highest_number (first_only (decoded case_c.problem))) zero_lists) in
-    let no_way : ◌≡◌ {A = ℕ} 0 1 = cc c_first_only in omega arith)
+    cc c_first_only)
 
 -- Case I solves 1,
 i_solves_one : answered (decision highest_number case_i.problem) ≡ Entailed 1
@@ -130,7 +131,7 @@ truth_of {problem} answer same true-one = record {
   entailed_exactly = subst (λ a. InRange highest_number problem → ((said a).word ≡ entailed) ↔ IsEntailed problem) answer true-one.entailed_exactly;
   contradictory_exactly = subst (λ a. InRange highest_number problem → ((said a).word ≡ contradictory) ↔ IsContradictory problem) answer true-one.contradictory_exactly;
   not_entailed_exactly = subst (λ a. InRange highest_number problem → ((said a).word ≡ not_entailed) ↔ IsNotEntailed problem) answer true-one.not_entailed_exactly;
-  range_exactly = subst (λ a. (number place : ℕ) → (a ≡ Refused number place) ↔ OutOfRange highest_number problem number place) answer true-one.range_exactly;
+  range_exactly = subst (λ a. (why : Reason) (place : ℕ) → (a ≡ Refused why place) ↔ OutOfRange highest_number problem why place) answer true-one.range_exactly;
   rows_exactly = λ finishes.
       subst (λ x. (t u : ℕ) → t < length problem.terms → u < length problem.terms → EqualRows x t u ↔ Forced problem (record { left = t; right = u })) (same finishes)
       (true-one.rows_exactly (subst Finished (sym (same finishes)) finishes));
@@ -156,4 +157,4 @@ keeps_after_stop_fails same =
     let kept : (keeps_after_stop case_d.problem one_lists).left ≡ one_lists = rw (is_long_lem one_lists one_lists_long, d_stops) in
     let first : get_or (keeps_after_stop case_d.problem one_lists).left.numerators 0 (pos 0) ≡ pos 1 = ap (λ left. get_or left.numerators 0 (pos 0)) kept ∙ get_or-replicate PLACES 0 (pos 1) (pos 0) (omega arith) in
     let clash : pos 1 ≡ pos 0 = sym first ∙ ap (λ o. get_or o.left.numerators 0 (pos 0)) (same case_d.problem one_lists) ∙ d_cleared in
-    let no_way : ◌≡◌ {A = ℕ} 0 1 = cc in omega arith
+    cc

@@ -3,7 +3,9 @@
 use Rattle.std.specs.Prelude.{cond, [], ℕ, suc, take}
 use Rattle.answer.specs.declared.Answer.{Answer}
 use Rattle.answer.specs.declared.Answer.TheVariants.{Entailed, NotEntailed, Contradictory, Refused}
-use Rattle.answer.specs.Refusals.{Refusal, SPACE}
+use Rattle.answer.specs.declared.Refusal.{Refusal}
+use Rattle.answer.specs.declared.Reason.{Reason}
+use Rattle.answer.specs.declared.Reason.TheVariants as reason
 use Rattle.answer.specs.Said.{said}
 use Rattle.fraction.specs.Made.{Made, made, stopped}
 use Rattle.rules_problem.specs.Problem.{Problem, decoded}
@@ -13,9 +15,9 @@ use Rattle.rules_run.specs.Run.{highest_number}
 use Rattle.rules_outcome.specs.Outcome.{Decision, unread, cut_short, finished, after_reading, decision, answered, Lent, is_long, Outcome, after, outcome}
 use Rattle.rules_demands.specs.Demands.{Program}
 
--- 01: "one that refuses all": with any number, at any place
-unfoldable pub refuses_all : (number place : ℕ) → Program
-refuses_all number place bytes lent = record { answer = Refused number place; left = lent }
+-- 01: "one that refuses all": for any reason, at any place
+unfoldable pub refuses_all : (why : Reason) (place : ℕ) → Program
+refuses_all why place bytes lent = record { answer = Refused why place; left = lent }
 
 -- "one that says not-entailed to all"
 unfoldable pub says_not_entailed : Program
@@ -24,9 +26,9 @@ says_not_entailed bytes lent =
     record { answer = NotEntailed (said o.answer).count; left = o.left }
 
 -- the rows that are built of a problem's terms
-unfoldable pub rows_made : Made ℕ Table → Table
+unfoldable pub rows_made : Made Reason Table → Table
 rows_made (made table) = table
-rows_made (stopped number) = []
+rows_made (stopped why) = []
 
 unfoldable pub rows_built : Made Refusal Problem → Table
 rows_built (made problem) = rows_made (built problem.terms [])
@@ -55,7 +57,7 @@ unfoldable pub one_more : Answer → Answer
 one_more (Entailed solved) = Entailed (suc solved)
 one_more (NotEntailed solved) = NotEntailed (suc solved)
 one_more (Contradictory place) = Contradictory place
-one_more (Refused number place) = Refused number place
+one_more (Refused why place) = Refused why place
 
 -- "A made-up solved count"
 unfoldable pub counts_one_more : Program
@@ -73,4 +75,4 @@ kept_after_stop (finished answer table) lent = after (finished answer table) len
 unfoldable pub keeps_after_stop : Program
 unfolding kept_after_stop
 keeps_after_stop bytes lent =
-    cond (is_long lent) (kept_after_stop (decision highest_number bytes) lent) (after (unread (record { number = SPACE; place = 0 })) lent)
+    cond (is_long lent) (kept_after_stop (decision highest_number bytes) lent) (after (unread (record { reason = reason.Space; place = 0 })) lent)

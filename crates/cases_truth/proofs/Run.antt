@@ -24,7 +24,7 @@ use Rattle.rules_run.specs.Run.{highest_number, run}
 use Rattle.rules_run.specs.Computed.{computed_run}
 use Rattle.laws_invariant.specs.Rows.{EqualCells}
 use Rattle.laws_invariant.specs.Invariant.{ValuesMeet, Completed}
-use Rattle.laws_invariant.proofs.Pivot.{last_or_before}
+use Rattle.laws_linear.proofs.Upto.{last_or_before}
 use Rattle.laws_truth.specs.Numbers.{weighted_number}
 use Rattle.laws_truth.specs.Sums.{weighted, weighted_row}
 use Rattle.laws_truth.proofs.Balanced.{balanced_exactly}

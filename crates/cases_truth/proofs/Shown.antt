@@ -60,17 +60,17 @@ module _ {case : Case} {problem : Problem} {word : Word} (stated : Stated case p
   -- So each word means what demand 2 says.
   pub if_entailed : word ≡ entailed → InRange highest_number problem × IsEntailed problem
   if_entailed same =
-      let within = inside (λ number refuses. let no_way : ◌≡◌ {A = ℕ} 0 1 = cc in omega arith) in
+      let within = inside (λ number refuses. cc) in
       (within, (tells.entailed_exactly within).0 (says ∙ same))
 
   pub if_contradictory : word ≡ contradictory → InRange highest_number problem × IsContradictory problem
   if_contradictory same =
-      let within = inside (λ number refuses. let no_way : ◌≡◌ {A = ℕ} 0 1 = cc in omega arith) in
+      let within = inside (λ number refuses. cc) in
       (within, (tells.contradictory_exactly within).0 (says ∙ same))
 
   pub if_not_entailed : word ≡ not_entailed → InRange highest_number problem × IsNotEntailed problem
   if_not_entailed same =
-      let within = inside (λ number refuses. let no_way : ◌≡◌ {A = ℕ} 0 1 = cc in omega arith) in
+      let within = inside (λ number refuses. cc) in
       (within, (tells.not_entailed_exactly within).0 (says ∙ same))
 
 pub case_a_not_entailed : Stated case_a problem_a not_entailed

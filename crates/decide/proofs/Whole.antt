@@ -1,18 +1,21 @@
 -- From the run in code to the outcome that the rules lay down.
--- Main results: `read_facts`, `then-runnable`, `then_finishable`, `decides_rows`, `decides_cleared`, `decided`, `decided_sound`, `decided_unread`,
--- `decided_short_numerators`, `decided_short_denominators`. Assume nothing.
+-- Main results: `read_facts`, `facts_held`, `then_finishable`, `decides_rows`, `decides_cleared`, `decided`, `decided_short`, `sound_read`,
+-- `decided_unread`, `decided_sound`. Assume nothing.
+use Rattle.std.specs.Prelude.{Err, Ok, Result}
+use Rattle.std.proofs.lemmas.Result.{IfOk-at_ok}
 use mathlib.Core.Path.{◌≡◌, refl, sym, ap, ◌∙◌, subst, subst₂}
-use mathlib.Core.Logic.{inr}
-use mathlib.Core.Bool.{false}
+use mathlib.Core.Logic.{◌⊎◌, inl, inr}
+use mathlib.Core.Bool.{false, and-false}
 use mathlib.Core.List.{List}
 use Prim.Native.Nat.{ℕ, ◌*◌, ◌≤◌, ◌<◌}
 use native.Mathlib.Omega.{arith}
-use borrow.Author.Tests.{lt-leb, le-leb}
+use borrow.Author.Tests.{lt-leb}
 use lib.ListN.{length, get_or}
 use lib.IntN.{ℤ, pos}
 use Rattle.answer.specs.declared.Answer.{Answer}
 use Rattle.answer.specs.declared.Answer.TheVariants.{Refused}
-use Rattle.answer.specs.Refusals.{Refusal, SPACE}
+use Rattle.answer.specs.declared.Refusal.{Refusal}
+use Rattle.answer.specs.declared.Reason.TheVariants as reason
 use Rattle.fraction.specs.Made.{Made, made, stopped}
 use Rattle.rules_problem.specs.Bits.{field}
 use Rattle.rules_problem.specs.Problem.{Problem, decoded}
@@ -21,16 +24,12 @@ use Rattle.rules_run.specs.Row.{TERMS, COLUMNS, PLACES, cell}
 use Rattle.rules_run.specs.Merge.{State}
 use Rattle.rules_run.specs.Run.{highest_number, run, judged}
 use Rattle.record_reader.specs.declared.Header.{Header}
-use Rattle.record_reader.specs.declared.Read.TheVariants as read
 use Rattle.record_reader.specs.Held.{Held}
 use Rattle.record_reader.specs.Reads.{header_of, read_as, read_of}
 use Rattle.record_reader.proofs.Holding.{read_held}
 use Rattle.run_table.specs.Loop.{Kept}
-use Rattle.run_table.specs.Work.{Work, table_of}
-use Rattle.run_progress.specs.declared.Ran.{Ran}
-use Rattle.run_progress.specs.declared.Ran.TheVariants.{Going, Ended}
+use Rattle.run_table.specs.Work.{Work, table_of, Rows}
 use Rattle.run_progress.specs.Ran.{ran}
-use Rattle.run_progress.proofs.Going.{going_holds}
 use Rattle.rules_outcome.specs.Outcome.{Lent, Long, is_long, Outcome, unread, finished, zeros, rows, after_run, after_reading, decision, answered, overwritten, laid_out, after, outcome}
 use Rattle.rules_outcome.proofs.Decided.{outcome_short, outcome_long_enough}
 use Rattle.rules_outcome.proofs.Laid.{overwritten_length, overwritten_below, overwritten_beyond, overwritten_is}
@@ -87,7 +86,7 @@ pub record Facts (bytes : List ℕ) (header : Header) : Type 0 where
   pub right_below : header.right < header.n
   pub goal : problem.goal ≡ record { left = header.left; right = header.right }
 
-pub read_facts : {bytes : List ℕ} {header : Header} → read_of bytes ≡ read.Sound header → Facts bytes header
+pub read_facts : {bytes : List ℕ} {header : Header} → read_of bytes ≡ Ok header → Facts bytes header
 unfolding header_of
 read_facts {bytes} {header} h =
     let (problem, held, same) = read_held bytes header h in
@@ -112,13 +111,13 @@ read_facts {bytes} {header} h =
 pub facts_held : {bytes : List ℕ} {header : Header} → Facts bytes header → Held bytes
 facts_held facts = record { problem = facts.problem; same = facts.held }
 
-module _ {bytes : List ℕ} {header : Header} {lent : Lent} {old new : Work} {r : Ran} (ready : ReadSound bytes header lent) (runs : Runs bytes header.n r old new) where
+module _ {bytes : List ℕ} {header : Header} {lent : Lent} {old new : Work} {r : Result ℕ Answer} (ready : ReadSound bytes header lent) (runs : Runs bytes header.n r old new) where
   facts : Facts bytes header
   facts = read_facts ready.sound
 
   -- A run that went through has a table to finish with.
-  pub then_finishable : {solved : ℕ} → r ≡ Going solved → Finishable header.n header.left header.right new
-  then_finishable going = let known = read_facts ready.sound in record { rows = going_holds going runs.rows; left_below = known.left_below; right_below = known.right_below }
+  pub then_finishable : {solved : ℕ} → r ≡ Ok solved → Finishable header.n header.left header.right new
+  then_finishable going = let known = read_facts ready.sound in record { rows = IfOk-at_ok (λ count. Rows header.n new) going runs.rows; left_below = known.left_below; right_below = known.right_below }
 
   -- The decision of a byte string that holds a problem is that of its run.
   decision_run : after (decision highest_number bytes) (lent_of old.nums old.dens) ≡ after (after_run facts.problem (ran r (table_of header.n new))) (lent_of new.nums new.dens)
@@ -130,7 +129,7 @@ module _ {bytes : List ℕ} {header : Header} {lent : Lent} {old new : Work} {r 
       ∙ ap (λ x. after (after_run known.problem x) (lent_of new.nums new.dens)) (runs.answers known.problem known.held)
 
   -- A run that went through leaves its rows, and one that stopped zeros.
-  pub decides_rows : {solved : ℕ} {answer : Answer} {left : Lent} → r ≡ Going solved → Finishes header.n header.left header.right solved answer new left → Decides bytes answer (lent_of old.nums old.dens) left
+  pub decides_rows : {solved : ℕ} {answer : Answer} {left : Lent} → r ≡ Ok solved → Finishes header.n header.left header.right solved answer new left → Decides bytes answer (lent_of old.nums old.dens) left
   unfolding after_run ran
   decides_rows {solved} going finishes =
       let lists = lent_of new.nums new.dens in
@@ -143,7 +142,7 @@ module _ {bytes : List ℕ} {header : Header} {lent : Lent} {old new : Work} {r 
             ∙ finishes.outcome;
       }
 
-  pub decides_cleared : {stop answer : Answer} {left : Lent} → r ≡ Ended stop → Clears stop answer (lent_of new.nums new.dens) left → Decides bytes answer (lent_of old.nums old.dens) left
+  pub decides_cleared : {stop answer : Answer} {left : Lent} → r ≡ Err stop → Clears stop answer (lent_of new.nums new.dens) left → Decides bytes answer (lent_of old.nums old.dens) left
   unfolding after_run ran
   decides_cleared ended clears =
       record { outcome = decision_run ∙ ap (λ x. after (after_run facts.problem (ran x (table_of header.n new))) (lent_of new.nums new.dens)) ended ∙ clears.outcome }
@@ -156,42 +155,40 @@ decided {bytes} {lent} same =
       truth = λ problem long held. subst (Truthful highest_number problem) same (outcome_truthful highest_number highest_number_strict bytes lent problem long held);
     }
 
+-- A byte string that is read as refused is left unread.
+decision_refused : (bytes : List ℕ) (why : Refusal) → read_of bytes ≡ Err why → decision highest_number bytes ≡ unread why
+unfolding decision after_reading read_of read_as
+decision_refused bytes why = go (decoded bytes) refl
+  where
+    go : (d : Made Refusal Problem) → decoded bytes ≡ d → read_as d ≡ Err why → after_reading highest_number (decoded bytes) ≡ unread why
+    go (made problem) e h = let z : ◌≡◌ {A = ℕ} 0 1 = cc in absurd (omega arith)
+    go (stopped refusal) e h = ap (after_reading highest_number) e ∙ ap unread (same refusal h)
+      where
+        same : (refusal : Refusal) → read_as (stopped refusal) ≡ Err why → refusal ≡ why
+        same refusal h = cc
+
+module _ {bytes : List ℕ} {nums dens : List ℤ} where
+  -- A list that is too short is refused with SPACE, and both stay as they are.
+  pub decided_short : (length nums < PLACES) ⊎ (length dens < PLACES) → Decided bytes (lent_of nums dens) (comes_back (Refused reason.Space 0) (lent_of nums dens))
+  unfolding after answered is_long
+  decided_short short = decided (outcome_short highest_number bytes (lent_of nums dens) (by short))
+    where
+      by : (length nums < PLACES) ⊎ (length dens < PLACES) → is_long (lent_of nums dens) ≡ false
+      by (inl few) = rw (lt-leb PLACES (length nums) few)
+      by (inr few) = rw (lt-leb PLACES (length dens) few, and-false)
+
+  -- Lists that are long enough: the problem that was read is decided,
+  module _ (first : PLACES ≤ length nums) (second : PLACES ≤ length dens) {read : Result Header Refusal} (told : read ≡ read_of bytes) where
+    pub sound_read : {header : Header} → read ≡ Ok header → ReadSound bytes header (lent_of nums dens)
+    sound_read is = record { sound = sym told ∙ is; long = record { numerators = first; denominators = second } }
+
+    -- or its refusal is the answer, and the lists stay.
+    pub decided_unread : {why : Refusal} → read ≡ Err why → {answer : Answer} → answer ≡ Refused why.reason why.place → Decided bytes (lent_of nums dens) (comes_back answer (lent_of nums dens))
+    unfolding after answered
+    decided_unread {why} is same =
+        rw same
+        (decided (outcome_long_enough highest_number bytes (lent_of nums dens) (record { numerators = first; denominators = second }) ∙ ap (λ d. after d (lent_of nums dens)) (decision_refused bytes why (sym told ∙ is))))
+
 -- A problem that was read: the decision.
 pub decided_sound : {bytes : List ℕ} {lent left : Lent} {r : Answer} → Long lent → Decides bytes r lent left → Decided bytes lent (comes_back r left)
 decided_sound {bytes} {lent} long decides = decided (outcome_long_enough highest_number bytes lent long ∙ decides.outcome)
-
--- A byte string that is read as refused is left unread.
-decision_refused : (bytes : List ℕ) (number place : ℕ) → read_of bytes ≡ read.Refused number place → decision highest_number bytes ≡ unread (record { number = number; place = place })
-unfolding decision after_reading read_of read_as
-decision_refused bytes number place = go (decoded bytes) refl
-  where
-    go : (d : Made Refusal Problem) → decoded bytes ≡ d → read_as d ≡ read.Refused number place → after_reading highest_number (decoded bytes) ≡ unread (record { number = number; place = place })
-    go (made problem) e h = let z : ◌≡◌ {A = ℕ} 0 1 = cc in absurd (omega arith)
-    go (stopped why) e h =
-        ap (after_reading highest_number) e
-        ∙ (λ i. unread (record { number = same_number why h i; place = same_place why h i }))
-      where
-        same_number : (why : Refusal) → read_as (stopped why) ≡ read.Refused number place → why.number ≡ number
-        same_number why h = cc
-
-        same_place : (why : Refusal) → read_as (stopped why) ≡ read.Refused number place → why.place ≡ place
-        same_place why h = cc
-
--- It is refused, and the lists stay.
-pub decided_unread : {bytes : List ℕ} {lent : Lent} {number place : ℕ} → Long lent → read_of bytes ≡ read.Refused number place → Decided bytes lent (comes_back (Refused number place) lent)
-unfolding after answered
-decided_unread {bytes} {lent} {number} {place} long refuses =
-    decided (outcome_long_enough highest_number bytes lent long ∙ ap (λ d. after d lent) (decision_refused bytes number place refuses))
-
--- A list that is too short is refused with SPACE, and both stay as they are.
-decided_short : {bytes : List ℕ} {lent : Lent} → is_long lent ≡ false → Decided bytes lent (comes_back (Refused SPACE 0) lent)
-unfolding after answered
-decided_short {bytes} {lent} short = decided (outcome_short highest_number bytes lent short)
-
-pub decided_short_numerators : {bytes : List ℕ} {nums dens : List ℤ} → length nums < PLACES → Decided bytes (lent_of nums dens) (comes_back (Refused SPACE 0) (lent_of nums dens))
-unfolding is_long
-decided_short_numerators {nums = nums} short = decided_short (rw (lt-leb PLACES (length nums) short))
-
-pub decided_short_denominators : {bytes : List ℕ} {nums dens : List ℤ} → PLACES ≤ length nums → length dens < PLACES → Decided bytes (lent_of nums dens) (comes_back (Refused SPACE 0) (lent_of nums dens))
-unfolding is_long
-decided_short_denominators {nums = nums} {dens = dens} long short = decided_short (rw (le-leb PLACES (length nums) long, lt-leb PLACES (length dens) short))

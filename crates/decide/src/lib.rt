@@ -7,10 +7,9 @@ ghost use Rattle.run_finish.specs.Lent.{comes_back, lent_of};
 ghost use Rattle.decide.specs.Contract.{Runnable, Runs, ReadSound, Decides};
 ghost use Rattle.decide.specs.Decided.{Decided};
 
-use answer::{Answer, SPACE};
-use record_reader::{Header, Read};
+use answer::{Answer, Reason};
+use record_reader::Header;
 use rules_problem::{PLACES, TERMS};
-use run_progress::Ran;
 use run_table::OPEN;
 
 // 01, The run: built and closed, then each assumption.
@@ -23,16 +22,12 @@ fn run_all(
     heads: &mut [u16],
     inputs: &mut [u8],
     sets: &mut [u64],
-) -> Ran
+) -> Result<usize, Answer>
     requires { Runnable bytes.now n m (store nums.old dens.old heads.old inputs.old sets.old) }
     ensures { Runs bytes.now n result (work nums.old dens.old sets.old) (work nums.new dens.new sets.new) }
 {
-    match run_begin::begin(bytes, n, nums, dens, heads, inputs, sets) {
-        Ran::Going(solved) => run_assume::assume_all(
-            bytes, n, m, nums, dens, heads, inputs, sets, solved,
-        ),
-        Ran::Ended(answer) => Ran::Ended(answer),
-    }
+    let solved = run_begin::begin(bytes, n, nums, dens, heads, inputs, sets)?;
+    run_assume::assume_all(bytes, n, m, nums, dens, heads, inputs, sets, solved)
 }
 
 // A problem that was read: the run, and the lists as it leaves them.
@@ -54,7 +49,7 @@ fn decide_sound(bytes: &[u8], header: Header, nums: &mut [i32], dens: &mut [i32]
         &mut inputs,
         &mut sets,
     ) {
-        Ran::Going(solved) => run_finish::with_rows(
+        Ok(solved) => run_finish::with_rows(
             nums,
             dens,
             n,
@@ -63,32 +58,24 @@ fn decide_sound(bytes: &[u8], header: Header, nums: &mut [i32], dens: &mut [i32]
             &sets,
             solved,
         ),
-        Ran::Ended(answer) => run_finish::cleared(nums, dens, answer),
+        Err(answer) => run_finish::cleared(nums, dens, answer),
     }
 }
 
 // Decides one problem. The numerators and denominators of the finished table, or zeros, are left in the two lists, which are
 // unchanged where the problem is refused with 1 to 6.
+#[tactic(auto, using(crate::proofs::Whole::decided_short, crate::proofs::Whole::sound_read))]
 pub fn decide(bytes: &[u8], nums: &mut [i32], dens: &mut [i32]) -> Answer
     ensures { Decided bytes.now (lent_of nums.old dens.old) (comes_back result (lent_of nums.new dens.new)) }
 {
-    if nums.len() < PLACES {
+    if nums.len() < PLACES || dens.len() < PLACES {
         return Answer::Refused {
-            number: SPACE,
-            place: 0,
-        };
-    }
-    if dens.len() < PLACES {
-        return Answer::Refused {
-            number: SPACE,
+            reason: Reason::Space,
             place: 0,
         };
     }
     match record_reader::read_problem(bytes) {
-        Read::Sound(header) => decide_sound(bytes, header, nums, dens),
-        Read::Refused { number, place } => Answer::Refused {
-            number: number,
-            place: place,
-        },
+        Ok(header) => decide_sound(bytes, header, nums, dens),
+        Err(refusal) => refusal.into(),
     }
 }

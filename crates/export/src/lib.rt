@@ -3,8 +3,7 @@
 
 ghost use Rattle.export.specs.Contract.{handed, Handed, RowHanded};
 
-use answer_numbers::in_numbers;
-use list_lines::Reached;
+use answer_numbers::Numbers;
 
 // Decides one problem, as `decide::decide` does. Answers the word: 0 entailed, 1 not-entailed, 2 contradictory, 3 refused.
 #[unsafe(no_mangle)]
@@ -18,11 +17,9 @@ pub extern "C" fn hamzulaph_decide(
     ensures { Handed bytes.now nums.old dens.old nums.new dens.new (handed result number.new figure.new) }
 {
     let answer = decide::decide(bytes, nums, dens);
-    let t = in_numbers(answer);
-    let n = t.number;
-    let f = t.figure;
-    *number = n;
-    *figure = f;
+    let t = Numbers::from(answer);
+    *number = t.number;
+    *figure = t.figure;
     t.word
 }
 
@@ -38,18 +35,14 @@ pub extern "C" fn hamzulaph_list_row(
 ) -> usize
     ensures { RowHanded nums.now dens.now t at buf.old buf.new result number.new }
 {
-    let reached = list_lines::list_row_at(buf, at, nums, dens, t);
-    match reached {
-        Reached::At(place) => {
+    match list_lines::list_row_at(buf, at, nums, dens, t) {
+        Ok(place) => {
             *number = 0;
             place
         }
-        Reached::Refused {
-            number: fault,
-            place,
-        } => {
-            *number = fault;
-            place
+        Err(refusal) => {
+            *number = refusal.reason.number();
+            refusal.place
         }
     }
 }

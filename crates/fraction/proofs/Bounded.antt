@@ -11,7 +11,8 @@ use borrow.Author.Tests.{leb-true, le-leb}
 use Rattle.whole.specs.Gcd.{gcd}
 use Rattle.whole.proofs.Sizes.{size_signed}
 use Rattle.fraction.specs.Exact.{ℚ, frac, ◌+ℚ◌, ◌-ℚ◌, ◌*ℚ◌, ◌÷ℚ◌}
-use Rattle.answer.specs.Refusals.{RANGE}
+use Rattle.answer.specs.declared.Reason.{Reason}
+use Rattle.answer.specs.declared.Reason.TheVariants as reason
 use Rattle.fraction.specs.Limits.{limit, within, tested, Outside, plus, minus, times, over}
 use Rattle.fraction.specs.Made.{made, stopped}
 
@@ -21,7 +22,7 @@ unfolding tested
 tested_within q h = rw h
 
 -- A number outside the limits is refused.
-pub tested_outside : (q : ℚ) → within q ≡ false → tested q ≡ stopped RANGE
+pub tested_outside : (q : ℚ) → within q ≡ false → tested q ≡ stopped reason.Range
 unfolding tested
 tested_outside q h = rw h
 
@@ -34,11 +35,11 @@ tested_made q c h = by (within q) refl
     by false outside = let refusal = tested_outside q outside in (cc, cc)
 
 -- What is refused lies outside the limits, and its refusal says so.
-pub tested_stopped : (q : ℚ) (number : ℕ) → tested q ≡ stopped number → (within q ≡ false) × Outside number
+pub tested_stopped : (q : ℚ) (why : Reason) → tested q ≡ stopped why → (within q ≡ false) × Outside why
 unfolding Outside
-tested_stopped q number h = by (within q) refl
+tested_stopped q why h = by (within q) refl
   where
-    by : (b : Bool) → within q ≡ b → (within q ≡ false) × (number ≡ RANGE)
+    by : (b : Bool) → within q ≡ b → (within q ≡ false) × (why ≡ reason.Range)
     by true inside = let passed = tested_within q inside in (cc, cc)
     by false outside = (outside, cc (tested_outside q outside))
 

@@ -9,6 +9,7 @@ use Rattle.whole.proofs.Sizes.{size_negated}
 use Rattle.whole.proofs.Solver.{ring}
 use Rattle.fraction.specs.Exact.{ℚ, neg_ℚ, inverse, ◌*ℚ◌, ◌÷ℚ◌}
 use Rattle.fraction.specs.Limits.{limit, within, tested, times, over}
+use Rattle.answer.specs.declared.Reason.{Reason}
 use Rattle.fraction.specs.Made.{Made, made, ◌>>=◌}
 use Rattle.fraction.proofs.Bounded.{tested_within, tested_outside}
 use Rattle.fraction.proofs.Field.{ℚ-ring, readsℚ}
@@ -18,7 +19,7 @@ within_negated : (q : ℚ) → within (neg_ℚ q) ≡ within q
 unfolding within neg_ℚ
 within_negated q = ap (λ size. leb size limit && leb q.den limit) (size_negated q.num)
 
-abbrev negated : Made ℕ ℚ → Made ℕ ℚ
+abbrev negated : Made Reason ℚ → Made Reason ℚ
 negated step = step >>= λ q. made (neg_ℚ q)
 
 -- So it does not matter whether a number is tested before it is negated, or after.

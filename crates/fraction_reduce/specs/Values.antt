@@ -1,13 +1,12 @@
 -- What the code's fraction and an operation's answer mean.
 -- Main definitions: `value`, `Good`, `Stands`, `says`, `Answers`. Assumes nothing.
-use Rattle.std.specs.Prelude.{◌≡◌, ℕ, ◌≤◌, pos, nat_abs}
+use Rattle.std.specs.Prelude.{◌≡◌, ℕ, ◌≤◌, pos, nat_abs, Err, Ok, Result}
 use Rattle.whole.specs.Gcd.{gcd}
 use Rattle.fraction.specs.Exact.{ℚ, frac}
+use Rattle.answer.specs.declared.Reason.{Reason}
 use Rattle.fraction.specs.Made as rule
 use Rattle.fraction.specs.Limits.{limit}
 use Rattle.fraction.specs.declared.Fraction.{Fraction}
-use Rattle.fraction_reduce.specs.declared.Tested.TheVariants.{Fits, Refused}
-use Rattle.fraction_reduce.specs.declared.Tested.{Tested}
 
 -- what a fraction struct stands for: its numerator over its denominator. It is asked of structs that are `Good`, whose denominator is above 0.
 unfoldable pub value : Fraction → ℚ
@@ -27,16 +26,16 @@ pub record Stands (f : Fraction) (q : ℚ) : Type 0 where
   pub same : value f ≡ q
 
 -- an operation's answer, as the rule's
-unfoldable pub says : Tested → rule.Made ℕ ℚ
-says (Fits f) = rule.made (value f)
-says (Refused number) = rule.stopped number
+unfoldable pub says : Result Fraction Reason → rule.Made Reason ℚ
+says (Ok f) = rule.made (value f)
+says (Err why) = rule.stopped why
 
 -- a fraction that was made is good
-unfoldable pub FitsGood : Tested → Type 0
-FitsGood (Fits f) = Good f
-FitsGood (Refused number) = Unit {0}
+unfoldable pub FitsGood : Result Fraction Reason → Type 0
+FitsGood (Ok f) = Good f
+FitsGood (Err why) = Unit {0}
 
 -- the answer is the rule's, and what was made is good
-pub record Answers (r : Tested) (answer : rule.Made ℕ ℚ) : Type 0 where
+pub record Answers (r : Result Fraction Reason) (answer : rule.Made Reason ℚ) : Type 0 where
   pub same : says r ≡ answer
   pub sound : FitsGood r

@@ -11,15 +11,8 @@ ghost use Rattle.fraction_reduce.specs.Values.{Good, Stands};
 
 use crate::reduce::{lowest, made};
 use fraction::{Fraction, Scaled};
-use whole_signed::{times, wide};
+use whole_signed::times;
 use whole_size::{size, size_wide};
-
-// What an operation answers: the fraction made, or the number of its refusal.
-#[derive(Drop)]
-pub enum Tested {
-    Fits(Fraction),
-    Refused(u8),
-}
 
 // The product of two denominators.
 pub fn bottoms(a: Fraction, b: Fraction) -> u64
@@ -34,7 +27,7 @@ fn power(shift: u8) -> u64
     requires { shift < 16 }
     ensures { result ≡ 2 ^ shift }
 {
-    1u64 << (shift as u32)
+    1 << shift
 }
 
 // A record's fraction in lowest terms: never refused, since neither number gets larger.
@@ -43,5 +36,5 @@ pub fn lowered(s: Scaled) -> Fraction
     ensures { Stands result (worth s) }
 {
     let terms = lowest(size(s.mantissa), power(s.shift));
-    made(wide(s.mantissa), terms.top, terms.bottom)
+    made(i64::from(s.mantissa), terms.top, terms.bottom)
 }

@@ -1,27 +1,24 @@
 // A whole number over another, in lowest terms and tested against the limits.
-ghost use Rattle.std.specs.Prelude.{◌<◌, ◌^◌, nat_abs};
+ghost use Rattle.std.specs.Prelude.{◌<◌};
 ghost use Rattle.fraction.specs.Exact.{frac};
 ghost use Rattle.fraction.specs.Limits.{tested};
-ghost use Rattle.fraction_reduce.specs.Contract.{Reducible, SizesLimited, InLowest, WithSign};
+ghost use Rattle.fraction_reduce.specs.Contract.{Reducible, SizesLimited, InLowest, WithSign, Tested};
 ghost use Rattle.fraction_reduce.specs.Values.{Answers};
 
-use crate::Tested;
-use answer::RANGE;
-use fraction::Fraction;
+use answer::Reason;
+use fraction::{Fraction, LIMIT};
 use whole_gcd::greatest;
 use whole_size::{narrow, put_back, size_wide};
 
-// 01, The run: the largest numerator and denominator.
-const LIMIT: u64 = 2147483647;
-
 // Two sizes with no common divisor but 1.
-#[derive(Drop)]
+#[derive(Clone, Copy, Debug, PartialEq, Eq)]
 pub struct Terms {
     pub top: u64,
     pub bottom: u64,
 }
 
 // Two sizes divided by their greatest common divisor.
+#[tactic(auto, using(whole::proofs::Divisors::gcd_positive))]
 pub(crate) fn lowest(top: u64, bottom: u64) -> Terms
     requires { 0 < bottom }
     ensures { InLowest top bottom result }
@@ -34,6 +31,7 @@ pub(crate) fn lowest(top: u64, bottom: u64) -> Terms
 }
 
 // The sign is put back last: all else goes by sizes.
+#[tactic(auto, unfolding(fraction::specs::Limits::limit))]
 pub fn made(like: i64, top: u64, bottom: u64) -> Fraction
     requires { SizesLimited top bottom }
     ensures { WithSign like top bottom result }
@@ -44,43 +42,32 @@ pub fn made(like: i64, top: u64, bottom: u64) -> Fraction
     }
 }
 
-// n / 1 is in lowest terms as it stands.
-fn whole(n: i64) -> Tested
-    requires { nat_abs n < 2 ^ 63 }
-    ensures { Answers result (tested (frac n 1)) }
+// Two sizes in lowest terms, with the sign of another number, where both are within the limits.
+#[tactic(auto, using(crate::proofs::Linked::tested_wide, crate::proofs::Linked::tested_deep), unfolding(fraction::specs::Limits::limit))]
+fn tested(like: i64, terms: Terms) -> Result<Fraction, Reason>
+    ensures { Tested like terms result }
 {
-    let units = size_wide(n);
-    if LIMIT < units {
-        return Tested::Refused(RANGE);
+    if LIMIT < terms.top || LIMIT < terms.bottom {
+        return Err(Reason::Range);
     }
-    Tested::Fits(made(n, units, 1))
+    Ok(made(like, terms.top, terms.bottom))
 }
 
-// n / d in lowest terms, where both numbers are within the limits.
-fn reduced_plain(n: i64, d: u64) -> Tested
+// n / d in lowest terms, where both numbers are within the limits. n / 1 is in lowest terms as it stands, with no gcd.
+#[tactic(auto, using(crate::proofs::Linked::reduced_whole))]
+pub fn reduced(n: i64, d: u64) -> Result<Fraction, Reason>
     requires { Reducible n d }
     ensures { Answers result (tested (frac n d)) }
 {
-    let terms = lowest(size_wide(n), d);
-    let top = terms.top;
-    let bottom = terms.bottom;
-    if LIMIT < top {
-        return Tested::Refused(RANGE);
-    }
-    if LIMIT < bottom {
-        return Tested::Refused(RANGE);
-    }
-    Tested::Fits(made(n, top, bottom))
-}
-
-// The same, with no gcd where none is needed.
-pub fn reduced(n: i64, d: u64) -> Tested
-    requires { Reducible n d }
-    ensures { Answers result (tested (frac n d)) }
-{
+    let size = size_wide(n);
     if d == 1 {
-        whole(n)
-    } else {
-        reduced_plain(n, d)
+        return tested(
+            n,
+            Terms {
+                top: size,
+                bottom: 1,
+            },
+        );
     }
+    tested(n, lowest(size, d))
 }

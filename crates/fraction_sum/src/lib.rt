@@ -5,10 +5,11 @@ ghost use Rattle.fraction.specs.Limits.{plus, minus};
 ghost use Rattle.fraction_reduce.specs.Values.{value, Good, Answers};
 ghost use Rattle.fraction_sum.specs.Contract.{Cross};
 
+use answer::Reason;
 use fraction::Fraction;
 use fraction_inverse::negated;
+use fraction_reduce::bottoms;
 use fraction_reduce::reduce::reduced;
-use fraction_reduce::{Tested, bottoms};
 use whole_signed::times;
 
 // The numerator of a sum, over the product of the denominators.
@@ -21,7 +22,8 @@ fn cross(a: Fraction, b: Fraction) -> i64
 }
 
 // Any two summands.
-fn sum_plain(a: Fraction, b: Fraction) -> Tested
+#[tactic(auto, using(crate::proofs::Summed::crossed))]
+fn sum_plain(a: Fraction, b: Fraction) -> Result<Fraction, Reason>
     requires a_good { Good a }
     requires b_good { Good b }
     ensures { Answers result (plus (value a) (value b)) }
@@ -30,22 +32,23 @@ fn sum_plain(a: Fraction, b: Fraction) -> Tested
 }
 
 // a plus b. To add 0 needs no gcd.
-pub fn sum(a: Fraction, b: Fraction) -> Tested
+pub fn sum(a: Fraction, b: Fraction) -> Result<Fraction, Reason>
     requires a_good { Good a }
     requires b_good { Good b }
     ensures { Answers result (plus (value a) (value b)) }
 {
     if a.num == 0 {
-        return Tested::Fits(b);
+        return Ok(b);
     }
     if b.num == 0 {
-        return Tested::Fits(a);
+        return Ok(a);
     }
     sum_plain(a, b)
 }
 
 // a minus b.
-pub fn difference(a: Fraction, b: Fraction) -> Tested
+#[tactic(auto, using(crate::proofs::Summed::opposite_added))]
+pub fn difference(a: Fraction, b: Fraction) -> Result<Fraction, Reason>
     requires a_good { Good a }
     requires b_good { Good b }
     ensures { Answers result (minus (value a) (value b)) }

@@ -2,7 +2,7 @@
 -- Main results: `built_column_lem`, `built_rows`, `build_invariant`. Assume nothing.
 use mathlib.Core.Path.{◌≡◌, refl, sym, ap, ap₂, ◌∙◌, subst}
 use mathlib.Core.Logic.{◌≢◌, inl}
-use mathlib.Core.Bool.{Bool, true, false, cond}
+use mathlib.Core.Bool.{Bool, true, false}
 use mathlib.Core.List.Memᴰ
 use mathlib.Core.List.{List, [], ◌∷◌, ◌++◌, append-nil}
 use Prim.Native.Nat.{ℕ, zero, suc, ◌+◌, ◌<◌}
@@ -10,15 +10,12 @@ use native.Mathlib.Decide.{dec_lt, ℕ_discrete}
 use native.Mathlib.Omega.{arith}
 use lib.ListN.{length, length-append, get_or-append}
 use lib.Seq.{append_snoc, get_or-append_seam}
-use lib.Dec.{eqb}
-use Rattle.fraction.specs.Exact.{ℚ, zero_ℚ, one_ℚ, worth, ◌*ℚ◌}
+use Rattle.fraction.specs.Exact.{ℚ, zero_ℚ, one_ℚ, ◌*ℚ◌}
 use Rattle.fraction.specs.Made.{made}
-use Rattle.fraction.proofs.Bounded.{plus_made, minus_made, times_made}
 use Rattle.fraction.proofs.Field.{times_one, times_zero}
 use Rattle.fraction.proofs.Making.{bind_made}
 use Rattle.laws_linear.proofs.Alone.{alone_elsewhere}
 use Rattle.rules_problem.specs.declared.Kind.{Kind}
-use Rattle.rules_problem.specs.declared.Kind.TheVariants.{Variable, Constant, Gain, Sum, Difference, Lookup1, Lookup2, Lookup3}
 use Rattle.rules_problem.specs.declared.Term.{Term}
 use Rattle.rules_problem.specs.Lookup.{kind_at}
 use Rattle.laws_linear.specs.Form.{eval}
@@ -29,31 +26,20 @@ use Rattle.rules_run.specs.Build.{alone, built_column, built}
 use Rattle.laws_invariant.specs.Invariant.{Shaped, Unsolved, is_unknown, is_solved, count, Invariant}
 use Rattle.laws_invariant.proofs.Count.{count_none}
 use Rattle.laws_invariant.proofs.Lin.{lin_congruent, lin_unknown, lin_own, lin_commutes, eval_linear, zero_linear}
-use Rattle.laws_invariant.proofs.Pivot.{last_or_before}
+use Rattle.laws_linear.proofs.Upto.{last_or_before}
 use Rattle.laws_invariant.proofs.Solved.{unsolved_not_counted, known_not_counted}
-use Rattle.laws_invariant.proofs.Steps.{row_made, cell_past}
+use Rattle.laws_invariant.proofs.Steps.{plus_is, minus_is, times_is, row_made, cell_past}
 use Rattle.laws_invariant.proofs.Units.{alone_value, constant_value, column_below, constant_apart}
 
 -- A constant's column is the constant times the unit's.
 constant_column : (q : ℚ) (c : ℕ) → alone constant q c ≡ q *ℚ alone constant one_ℚ c
 unfolding alone
-constant_column q c = by (eqb c constant)
-  where
-    by : (b : Bool) → cond b q zero_ℚ ≡ q *ℚ cond b one_ℚ zero_ℚ
-    by true = sym (times_one q)
-    by false = sym (times_zero q)
+constant_column q c = grind (arith, times_one q, times_zero q)
 
 -- A built column that is made is what the term makes of its inputs' columns.
 pub built_column_lem : (table : Table) (own : ℕ) (kind : Kind) (c : ℕ) (q : ℚ) → built_column table own kind c ≡ made q → q ≡ lin kind (λ i. cell table i c) (alone constant one_ℚ c) (alone own one_ℚ c)
 unfolding built_column lin
-built_column_lem table own (Variable symbol) c q h = cc
-built_column_lem table own (Constant held) c q h = cc (constant_column (worth held) c)
-built_column_lem table own (Gain factor input) c q h = (times_made _ _ q h).0
-built_column_lem table own (Sum left right) c q h = (plus_made _ _ q h).0
-built_column_lem table own (Difference left right) c q h = (minus_made _ _ q h).0
-built_column_lem table own (Lookup1 symbol input) c q h = cc
-built_column_lem table own (Lookup2 symbol first second) c q h = cc
-built_column_lem table own (Lookup3 symbol first second third) c q h = cc
+built_column_lem table own kind c q h = grind (arith, plus_is, minus_is, times_is, constant_column)
 
 -- Each row is what its term makes of its inputs' rows, and an unknown's is 1 at itself.
 pub record Rows (terms : List Term) (table : Table) : Type 0 where

@@ -3,7 +3,7 @@
 use mathlib.Core.Path.{◌≡◌, refl, sym, ◌∙◌, subst}
 use mathlib.Core.Logic.{◌⊎◌, inl, inr}
 use mathlib.Core.Bool.{and-eq-true_iff}
-use mathlib.Core.List.{List, Memᴰ}
+use mathlib.Core.List.{List}
 use mathlib.Core.Option.{Option, some, none}
 use Prim.Native.Nat.{ℕ, zero, suc, ◌+◌, ◌≤◌, ◌<◌}
 use native.Mathlib.Omega.{arith}
@@ -15,7 +15,8 @@ use Rattle.laws_linear.proofs.Eval.{eval_equal}
 use Rattle.rules_problem.specs.declared.Term.{Term}
 use Rattle.rules_problem.specs.Lookup.{inputs_of, kind_at}
 use Rattle.rules_problem.specs.Problem.{Pair}
-use Rattle.laws_valuation.proofs.Readings.{lookup_inputs}
+use Rattle.laws_valuation.specs.Written.{Written}
+use Rattle.laws_valuation.proofs.Readings.{inputs_below}
 use Rattle.rules_run.specs.Row.{TERMS, cell}
 use Rattle.rules_run.specs.Merge.{State, contradiction, merge}
 use Rattle.rules_run.specs.Close.{due, close_for, close}
@@ -41,11 +42,11 @@ module _ {rank : ℕ → ℕ} {terms : List Term} {inForce met : List Pair} {sta
   due_forced shaped i j pair v valued meets =
       valued.congruent i j pair.before pair.below pair.similar
       (equal_places_values state.table v (inputs_of (kind_at terms i)) (inputs_of (kind_at terms j))
-      (λ t u first second same. equal_rows_forced t u (input i (omega (arith, pair.before, pair.below)) t first) (input j pair.below u second) same v valued meets)
+      (λ t u first second same. equal_rows_forced t u (inputs_below terms written i (omega (arith, pair.before, pair.below)) t first) (inputs_below terms written j pair.below u second) same v valued meets)
       pair.inputs)
     where
-      input : (k : ℕ) → k < length terms → (t : ℕ) → Memᴰ t (inputs_of (kind_at terms k)) → t < length terms
-      input k below t member = let first = shaped.earlier k below t (lookup_inputs (kind_at terms k) t member) in omega arith
+      written : Written terms
+      written = record { earlier = shaped.earlier }
 
   -- The count is at most the number of unknowns, which is at most that of the terms.
   pub solved_at_most : state.solved ≤ count (length terms) (λ c. is_unknown (kind_at terms c))

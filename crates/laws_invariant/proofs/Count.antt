@@ -1,9 +1,9 @@
 -- Counting the numbers that pass a test.
 -- Main results: `count_none`, `count_equal`, `count_at_most`, `count_below`, `count_one_more`. Assume nothing.
-use mathlib.Core.Path.{◌≡◌, refl, ap₂}
+use mathlib.Core.Path.{◌≡◌, refl}
 use mathlib.Core.Logic.{◌≢◌}
-use mathlib.Core.Bool.{Bool, true, false, cond}
-use Prim.Native.Nat.{ℕ, zero, suc, ◌+◌, ◌≤◌, ◌<◌}
+use mathlib.Core.Bool.{Bool, true, false}
+use Prim.Native.Nat.{ℕ, zero, suc, ◌≤◌, ◌<◌}
 use native.Mathlib.Omega.{arith}
 use Rattle.laws_invariant.specs.Invariant.{count}
 
@@ -11,36 +11,25 @@ use Rattle.laws_invariant.specs.Invariant.{count}
 pub count_equal : (n : ℕ) (test other : ℕ → Bool) → ((c : ℕ) → c < n → test c ≡ other c) → count n test ≡ count n other
 unfolding count
 count_equal zero test other same = refl
-count_equal (suc n) test other same =
-    ap₂ (λ b k. cond b 1 0 + k) (same 0 (omega arith)) (count_equal n (λ c. test (suc c)) (λ c. other (suc c)) (λ c below. same (suc c) (omega arith)))
+count_equal (suc n) test other same = grind (arith, same 0, count_equal n (λ c. test (suc c)) (λ c. other (suc c)) (λ c below. same (suc c) (omega arith)))
 
 -- A test that none passes counts none.
 pub count_none : (n : ℕ) (test : ℕ → Bool) → ((c : ℕ) → c < n → test c ≡ false) → count n test ≡ 0
 unfolding count
 count_none zero test never = refl
-count_none (suc n) test never = rw (never 0 (omega arith), count_none n (λ c. test (suc c)) (λ c below. never (suc c) (omega arith)))
+count_none (suc n) test never = grind (arith, never 0, count_none n (λ c. test (suc c)) (λ c below. never (suc c) (omega arith)))
 
 -- A test that passes less counts no more.
 pub count_at_most : (n : ℕ) (test other : ℕ → Bool) → ((c : ℕ) → c < n → test c ≡ true → other c ≡ true) → count n test ≤ count n other
 unfolding count
 count_at_most zero test other less = omega arith
-count_at_most (suc n) test other less = by (test 0) (other 0) (less 0 (omega arith)) (count_at_most n (λ c. test (suc c)) (λ c. other (suc c)) (λ c below. less (suc c) (omega arith)))
-  where
-    by : (b d : Bool) → (b ≡ true → d ≡ true) → count n (λ c. test (suc c)) ≤ count n (λ c. other (suc c)) → cond b 1 0 + count n (λ c. test (suc c)) ≤ cond d 1 0 + count n (λ c. other (suc c))
-    by true true both rest = omega arith
-    by true false both rest = let no_way : ◌≡◌ {A = ℕ} 0 1 = cc (both refl) in omega arith
-    by false true both rest = omega arith
-    by false false both rest = omega arith
+count_at_most (suc n) test other less = grind (arith, less 0, count_at_most n (λ c. test (suc c)) (λ c. other (suc c)) (λ c below. less (suc c) (omega arith)))
 
 -- At most all numbers below n pass.
 pub count_below : (n : ℕ) (test : ℕ → Bool) → count n test ≤ n
 unfolding count
 count_below zero test = omega arith
-count_below (suc n) test = by (test 0) (count_below n (λ c. test (suc c)))
-  where
-    by : (b : Bool) → count n (λ c. test (suc c)) ≤ n → cond b 1 0 + count n (λ c. test (suc c)) ≤ suc n
-    by true rest = omega arith
-    by false rest = omega arith
+count_below (suc n) test = grind (arith, count_below n (λ c. test (suc c)))
 
 -- A test that one number more passes counts one more.
 pub count_one_more : (n p : ℕ) (test other : ℕ → Bool) → p < n → test p ≡ false → other p ≡ true → ((c : ℕ) → c < n → c ≢ p → other c ≡ test c) → count n other ≡ suc (count n test)

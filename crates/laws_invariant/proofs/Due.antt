@@ -1,11 +1,10 @@
 -- The pair that closing merges next, and that a table with none is closed.
 -- Main results: `first_none`, `Due`, `due_some`, `none_due`, `due_none`. Assume nothing.
-use mathlib.Core.Path.{◌≡◌, refl, sym, ap, ◌∙◌, subst}
+use mathlib.Core.Path.{◌≡◌, refl, sym, ◌∙◌, subst}
 use mathlib.Core.Bool.{Bool, true, false, not, ◌&&◌, cond, and-eq-true_iff, true≢false}
 use mathlib.Core.List.{List}
 use mathlib.Core.Option.{Option, some, none}
 use Prim.Native.Nat.{ℕ, zero, suc, ◌+◌, ◌≤◌, ◌<◌}
-use native.Mathlib.Decide.{ℕ_discrete}
 use native.Mathlib.Omega.{arith}
 use lib.ListN.{length}
 use lib.Dec.{T}
@@ -22,22 +21,13 @@ use Rattle.laws_invariant.proofs.Rows.{same_row_equal, same_rows_equal}
 pub first_none : {A : Type 0} (count from : ℕ) (g : ℕ → Option A) → first count from g ≡ none → (k : ℕ) → from ≤ k → k < from + count → g k ≡ none
 unfolding first
 first_none zero from g h k low high = absurd (omega arith)
-first_none {A} (suc count) from g h k low high = by (g from) refl h (first_none count (suc from) g) (ℕ_discrete k from)
-  where
-    by : (o : Option A) → g from ≡ o → ◌≡◌ {A = Option A} (elim o [ none ↦ first count (suc from) g | some b ↦ some b ]) none → (first count (suc from) g ≡ none → (k : ℕ) → suc from ≤ k → k < suc from + count → g k ≡ none) → Dec (k ≡ from) → g k ≡ none
-    by none empty same later (yes here) = ap g here ∙ empty
-    by none empty same later (no other) = later same k (omega arith) (omega arith)
-    by (some b) found same later where-k = let no_way : ◌≡◌ {A = ℕ} 0 1 = cc in absurd (omega arith)
+first_none (suc count) from g h k low high = grind (arith, first_none count (suc from) g)
 
 -- What is found is found at one of the numbers.
 first_some : {A : Type 0} (count from : ℕ) (g : ℕ → Option A) (a : A) → first count from g ≡ some a → (k : ℕ) × (k < from + count) × (g k ≡ some a)
 unfolding first
-first_some zero from g a h = let no_way : ◌≡◌ {A = ℕ} 0 1 = cc in absurd (omega arith)
-first_some {A} (suc count) from g a h = by (g from) refl h (first_some count (suc from) g a)
-  where
-    by : (o : Option A) → g from ≡ o → elim o [ none ↦ first count (suc from) g | some b ↦ some b ] ≡ some a → (first count (suc from) g ≡ some a → (k : ℕ) × (k < suc from + count) × (g k ≡ some a)) → (k : ℕ) × (k < from + suc count) × (g k ≡ some a)
-    by none empty same later = let (k, below, found) = later same in (k, omega arith, found)
-    by (some b) found same later = (from, omega arith, found ∙ same)
+first_some zero from g a h = cc
+first_some (suc count) from g a h = grind (arith, first_some count (suc from) g a)
 
 -- A pair that closing merges: lookups of one function, inputs with equal rows place by place, unequal rows of their own.
 pub record Due (terms : List Term) (table : Table) (i j : ℕ) : Type 0 where
@@ -48,8 +38,7 @@ pub record Due (terms : List Term) (table : Table) (i j : ℕ) : Type 0 where
   pub unequal : EqualCells table i j → ⊥
 
 pub T_true : (b : Bool) → T b → b ≡ true
-T_true true h = refl
-T_true false h = absurd h
+T_true b h = grind arith
 
 module _ (terms : List Term) (table : Table) where
   -- the pair i, j if it is due
@@ -81,18 +70,14 @@ module _ (terms : List Term) (table : Table) where
     where
       by : (j i : ℕ) → j < length terms → i < j → (b : Bool) → is_due terms table i j ≡ b → cond b (some (record { left = i; right = j })) none ≡ some pair → Due terms table pair.left pair.right
       by j i below before true test same = let at : ◌≡◌ {A = Pair} (record { left = i; right = j }) pair = cc in subst (λ q. Due terms table q.left q.right) at (is_due_lem i j before below test)
-      by j i below before false test same = let no_way : ◌≡◌ {A = ℕ} 0 1 = cc in absurd (omega arith)
+      by j i below before false test same = cc
 
   -- Where closing finds nothing due no pair is.
   pub none_due : due terms table ≡ none → (i j : ℕ) → i < j → j < length terms → is_due terms table i j ≡ false
   unfolding due
   none_due h i j before below =
       let row = first_none (length terms) 0 (λ j. first j 0 (pair_if j)) h j (omega arith) (omega arith) in
-      by (is_due terms table i j) (first_none j 0 (pair_if j) row i (omega arith) (omega arith))
-    where
-      by : (b : Bool) → ◌≡◌ {A = Option Pair} (cond b (some (record { left = i; right = j })) none) none → b ≡ false
-      by true found = let no_way : ◌≡◌ {A = ℕ} 0 1 = cc in absurd (omega arith)
-      by false nothing = refl
+      grind (arith, first_none j 0 (pair_if j) row i (omega arith) (omega arith))
 
   -- Then the table is closed.
   pub due_none : due terms table ≡ none → ClosedTable terms table

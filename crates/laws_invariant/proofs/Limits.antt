@@ -1,7 +1,7 @@
 -- The run leaves every fraction of its table within the limits.
 -- Main definition: `Limited`. Main result: `run_limited`. Assume nothing.
 use mathlib.Core.Path.{◌≡◌, refl}
-use mathlib.Core.Bool.{Bool, true, false, cond}
+use mathlib.Core.Bool.{true}
 use mathlib.Core.List.{List, [], ◌∷◌, ◌++◌}
 use mathlib.Core.Option.{Option, some, none}
 use Prim.Native.Nat.{ℕ, zero, suc, ◌+◌, ◌*◌, ◌^◌, ◌<◌}
@@ -16,6 +16,7 @@ use Rattle.fraction.specs.declared.Scaled.{Scaled}
 use Rattle.fraction.specs.InRecord.{InRecord}
 use Rattle.fraction.specs.Exact.{ℚ, whole, zero_ℚ, one_ℚ, worth, eq_ℚ}
 use Rattle.fraction.specs.Limits.{limit, within, tested, plus, minus, times}
+use Rattle.answer.specs.declared.Reason.{Reason}
 use Rattle.fraction.specs.Made.{Made, made, stopped, ◌>>=◌}
 use Rattle.fraction.proofs.Answers.{Answers, if_made, if_stopped, answers_made, answers_with, answers_bind, answers_because, answers_tab}
 use Rattle.fraction.proofs.Bounded.{tested_made, frac_within}
@@ -31,9 +32,10 @@ use Rattle.rules_problem.proofs.Recorded.{Recorded, variable, constant, gain, su
 use Rattle.rules_problem.proofs.Widths.{scaled_in_record}
 use Rattle.rules_run.specs.Row.{Row, Table, TERMS, COLUMNS, constant as constantColumn, column, row_of, cell, row}
 use Rattle.rules_run.specs.Build.{alone, built_column, built}
-use Rattle.rules_run.specs.Merge.{State, Stop, contradiction, outside, pivot, folded_column, folded, solve, settle, merge}
+use Rattle.rules_run.specs.Merge.{State, Stop, outside, pivot, folded_column, folded, solve, settle, merge}
 use Rattle.rules_run.specs.Close.{due, close_for, close}
 use Rattle.rules_run.specs.Run.{Ranking, ends, assume, begin, run}
+use Rattle.laws_invariant.proofs.Range.{answers_cond}
 use Rattle.laws_invariant.proofs.Steps.{row_made, cell_past}
 
 -- each fraction of a row is within the limits,
@@ -65,11 +67,7 @@ one_limited = refl
 
 alone_limited : (only c : ℕ) (q : ℚ) → within q ≡ true → within (alone only q c) ≡ true
 unfolding alone
-alone_limited only c q inside = by (eqb c only)
-  where
-    by : (b : Bool) → within (cond b q zero_ℚ) ≡ true
-    by true = inside
-    by false = zero_limited
+alone_limited only c q inside = grind (arith, zero_limited)
 
 -- "mantissa 16 (..), shift 4": a constant lies within the limits, in lowest terms too.
 recorded_limited : (s : Scaled) → InRecord s → within (worth s) ≡ true
@@ -80,35 +78,24 @@ recorded_limited s recorded =
 
 -- the constant of a term, if it is one, lies within the limits
 ConstantLimited : Kind → Type 0
-ConstantLimited (Constant held) = within (worth held) ≡ true
-ConstantLimited (Variable symbol) = Unit
-ConstantLimited (Gain factor input) = Unit
-ConstantLimited (Sum left right) = Unit
-ConstantLimited (Difference left right) = Unit
-ConstantLimited (Lookup1 symbol input) = Unit
-ConstantLimited (Lookup2 symbol first second) = Unit
-ConstantLimited (Lookup3 symbol first second third) = Unit
+ConstantLimited kind = (held : Scaled) → kind ≡ Constant held → within (worth held) ≡ true
 
 kind_limited : {own : ℕ} {f : Fields} {kind : Kind} → InRecord (scaled f) → Recorded own f kind → ConstantLimited kind
 unfolding ConstantLimited
-kind_limited recorded variable = tt
-kind_limited recorded constant = recorded_limited _ recorded
-kind_limited recorded (gain below) = tt
-kind_limited recorded (sum below) = tt
-kind_limited recorded (difference below) = tt
-kind_limited recorded (lookup1 below) = tt
-kind_limited recorded (lookup2 below) = tt
-kind_limited recorded (lookup3 below) = tt
+kind_limited recorded variable held same = cc
+kind_limited recorded constant held same = cc (recorded_limited _ recorded)
+kind_limited recorded (gain below) held same = cc
+kind_limited recorded (sum below) held same = cc
+kind_limited recorded (difference below) held same = cc
+kind_limited recorded (lookup1 below) held same = cc
+kind_limited recorded (lookup2 below) held same = cc
+kind_limited recorded (lookup3 below) held same = cc
 
 -- What is tested lies within the limits.
 tested_limited : (q : ℚ) → Makes (λ c. within c ≡ true) (tested q)
-tested_limited q = by (tested q) refl
-  where
-    by : (step : Made ℕ ℚ) → tested q ≡ step → Makes (λ c. within c ≡ true) step
-    by (made c) h = if_made (tested_made q c h).1
-    by (stopped number) h = if_stopped tt
+tested_limited q = answers_with (anything _) (λ c h. (tested_made q c h).1)
 
-row_limited : {g : ℕ → Made ℕ ℚ} → ((c : ℕ) → Makes (λ q. within q ≡ true) (g c)) → Makes LimitedRow (row g)
+row_limited : {g : ℕ → Made Reason ℚ} → ((c : ℕ) → Makes (λ q. within q ≡ true) (g c)) → Makes LimitedRow (row g)
 unfolding row
 row_limited {g} all = answers_with (answers_tab all COLUMNS 0) (λ r h. record { each = λ c below. answers_made (all c) (row_made g r h c below) })
 
@@ -116,7 +103,7 @@ row_limited {g} all = answers_with (answers_tab all COLUMNS 0) (λ r h. record {
 column_limited : (table : Table) (own : ℕ) (kind : Kind) → ConstantLimited kind → (c : ℕ) → Makes (λ q. within q ≡ true) (built_column table own kind c)
 unfolding built_column times plus minus ConstantLimited
 column_limited table own (Variable symbol) held c = if_made (alone_limited own c one_ℚ one_limited)
-column_limited table own (Constant fraction) held c = if_made (alone_limited constantColumn c _ held)
+column_limited table own (Constant fraction) held c = if_made (alone_limited constantColumn c _ (held fraction refl))
 column_limited table own (Gain factor input) held c = tested_limited _
 column_limited table own (Sum left right) held c = tested_limited _
 column_limited table own (Difference left right) held c = tested_limited _
@@ -143,11 +130,7 @@ built_limited (term ∷ terms) table held before =
 -- A fold tests what it leaves.
 fold_limited : (p : ℕ) (form r : Row) (c : ℕ) → Makes (λ q. within q ≡ true) (folded_column p form r c)
 unfolding folded_column times plus
-fold_limited p form r c = by (eqb c p)
-  where
-    by : (b : Bool) → Makes (λ q. within q ≡ true) (cond b (made zero_ℚ) (times (column r p) (column form c) >>= λ gained. plus (column r c) gained))
-    by true = if_made zero_limited
-    by false = answers_bind (tested_limited _) (λ gained inside. tested_limited _)
+fold_limited p form r c = answers_cond (eqb c p) (if_made zero_limited) (answers_bind (tested_limited _) (λ gained inside. tested_limited _))
 
 folded_limited : (p : ℕ) (form : Row) (table : Table) → Makes Limited (folded p form table)
 unfolding folded cell row_of
@@ -163,15 +146,11 @@ folded_limited p form table = answers_with (answers_tab (λ t. row_limited (fold
 module _ (rank : ℕ → ℕ) where
   settle_limited : (d : Row) (state : State) → Limited state.table → (o : Option ℕ) → MakesLimited (settle d state o)
   unfolding settle solve
-  settle_limited d state before none = by (eq_ℚ (column d constantColumn) zero_ℚ)
-    where
-      by : (b : Bool) → MakesLimited (cond b (made state) (stopped contradiction))
-      by true = if_made before
-      by false = if_stopped tt
+  settle_limited d state before none = answers_cond (eq_ℚ (column d constantColumn) zero_ℚ) (if_made before) (if_stopped tt)
   settle_limited d state before (some p) =
       answers_because outside
       (answers_bind (anything _) (λ form any. answers_bind (folded_limited p form state.table) (λ table inside. if_made inside)))
-      (λ number any. tt)
+      (λ why any. tt)
 
   merge_limited : (t u : ℕ) (state : State) → Limited state.table → MakesLimited (merge rank t u state)
   unfolding merge
@@ -215,6 +194,6 @@ run_limited ranking bytes problem read state h = answers_made whole_run h
     whole_run =
         answers_bind
         (answers_because (ends 0)
-        (answers_bind (answers_because outside (built_limited terms [] held empty) (λ number any. tt)) (λ table before. close_limited (ranking terms) terms (suc (length terms)) _ before))
+        (answers_bind (answers_because outside (built_limited terms [] held empty) (λ why any. tt)) (λ table before. close_limited (ranking terms) terms (suc (length terms)) _ before))
         (λ why any. tt))
         (assume_limited (ranking terms) terms 1 problem.pairs)

@@ -1,9 +1,10 @@
 -- The laws of a term as a linear function of its inputs.
 -- Main results: `lin_congruent`, `lin_unknown`, `lin_own`, `Linear`, `lin_commutes`, `fold_linear`, `eval_linear`. Assume nothing.
 use mathlib.Core.Path.{◌≡◌, refl, sym, ap, ap₂}
-use mathlib.Core.Bool.{true, false, true≢false, false≢true}
+use mathlib.Core.Bool.{true, false}
 use mathlib.Core.List.{[], Memᴰ}
 use Prim.Native.Nat.{ℕ}
+use native.Mathlib.Omega.{arith}
 use Rattle.whole.proofs.Solver.{ring}
 use Rattle.fraction.specs.Exact.{ℚ, zero_ℚ, worth, ◌+ℚ◌, ◌-ℚ◌, ◌*ℚ◌}
 use Rattle.fraction.proofs.Field.{ℚ-ring, readsℚ, times_zero}
@@ -31,26 +32,12 @@ lin_congruent (Lookup3 symbol first second third) a b unit own same = refl
 -- An unknown counts what it chooses.
 pub lin_unknown : (kind : Kind) (a : ℕ → ℚ) (unit own : ℚ) → is_unknown kind ≡ true → lin kind a unit own ≡ own
 unfolding lin is_unknown
-lin_unknown (Variable symbol) a unit own h = refl
-lin_unknown (Constant held) a unit own h = absurd (false≢true h)
-lin_unknown (Gain factor input) a unit own h = absurd (false≢true h)
-lin_unknown (Sum left right) a unit own h = absurd (false≢true h)
-lin_unknown (Difference left right) a unit own h = absurd (false≢true h)
-lin_unknown (Lookup1 symbol input) a unit own h = refl
-lin_unknown (Lookup2 symbol first second) a unit own h = refl
-lin_unknown (Lookup3 symbol first second third) a unit own h = refl
+lin_unknown kind a unit own h = grind arith
 
 -- Any other term has no choice.
 pub lin_own : (kind : Kind) (a : ℕ → ℚ) (unit own other : ℚ) → is_unknown kind ≡ false → lin kind a unit own ≡ lin kind a unit other
 unfolding lin is_unknown
-lin_own (Variable symbol) a unit own other h = absurd (true≢false h)
-lin_own (Constant held) a unit own other h = refl
-lin_own (Gain factor input) a unit own other h = refl
-lin_own (Sum left right) a unit own other h = refl
-lin_own (Difference left right) a unit own other h = refl
-lin_own (Lookup1 symbol input) a unit own other h = absurd (true≢false h)
-lin_own (Lookup2 symbol first second) a unit own other h = absurd (true≢false h)
-lin_own (Lookup3 symbol first second third) a unit own other h = absurd (true≢false h)
+lin_own kind a unit own other h = grind arith
 
 -- A number made of a form that keeps sums, differences and multiples.
 pub record Linear (L : Form → ℚ) : Type 0 where

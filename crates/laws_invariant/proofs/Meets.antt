@@ -12,10 +12,11 @@ use Rattle.fraction.proofs.Field.{difference_zero}
 use Rattle.fraction.proofs.Making.{bind_made, because_made, stopped_not_made}
 use Rattle.laws_linear.specs.Form.{fold_form}
 use Rattle.laws_linear.proofs.Fold.{fold_equal, fold_minus}
+use Rattle.laws_linear.proofs.Upto.{last_or_before}
 use Rattle.rules_run.specs.Row.{Row, Table, TERMS, COLUMNS, constant, column, row_of, cell, same_row}
 use Rattle.rules_run.specs.Merge.{State, contradiction, outside, difference, pivot, solve, settle, merge}
 use Rattle.laws_invariant.specs.Rows.{EqualCells, solved_form}
-use Rattle.laws_invariant.proofs.Pivot.{Pivot, last_or_before, pivot_some, pivot_none}
+use Rattle.laws_invariant.proofs.Pivot.{Pivot, pivot_some, pivot_none}
 use Rattle.laws_invariant.proofs.Rows.{same_row_equal}
 use Rattle.laws_invariant.proofs.SolvedForm.{solved_cancels}
 use Rattle.laws_invariant.proofs.Steps.{Solves, difference_made, solve_made}

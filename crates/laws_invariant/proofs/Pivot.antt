@@ -1,16 +1,16 @@
 -- Which unknown a merge solves: the nonzero column of highest rank.
 -- Main results: `Pivot`, `pivot_some`, `pivot_none`, `pivot_highest`. Assume nothing.
-use mathlib.Core.Path.{◌≡◌, refl, sym, subst}
+use mathlib.Core.Path.{◌≡◌, refl, subst}
 use mathlib.Core.Logic.{◌≢◌}
 use mathlib.Core.Bool.{Bool, true, false, cond}
 use mathlib.Core.Option.{Option, some, none}
 use Prim.Native.Nat.{ℕ, zero, suc, ◌≤◌, ◌<◌}
 use native.Mathlib.Omega.{arith}
-use native.Mathlib.Decide.{ℕ_discrete}
 use lib.Dec.{ltb}
 use borrow.Author.Tests.{ltb-true, ltb-false}
 use Rattle.fraction.specs.Exact.{zero_ℚ, eq_ℚ}
 use Rattle.fraction.proofs.Equality.{eq_ℚ_yes, eq_ℚ_no}
+pub use Rattle.laws_linear.proofs.Upto.{last_or_before}
 use Rattle.rules_run.specs.Row.{Row, column}
 use Rattle.rules_run.specs.Merge.{higher, pivot}
 
@@ -19,14 +19,6 @@ pub record Pivot (rank : ℕ → ℕ) (N : ℕ) (d : Row) (p : ℕ) : Type 0 whe
   pub below : p < N
   pub nonzero : column d p ≢ zero_ℚ
   pub highest : (c : ℕ) → c < N → column d c ≢ zero_ℚ → rank c ≤ rank p
-
--- c < suc k is c < k or c = k
-pub last_or_before {ℓ} : {P : ℕ → Type ℓ} (k : ℕ) → P k → ((c : ℕ) → c < k → P c) → (c : ℕ) → c < suc k → P c
-last_or_before {P = P} k last before c below = by (ℕ_discrete c k)
-  where
-    by : Dec (c ≡ k) → P c
-    by (yes same) = subst P (sym same) last
-    by (no other) = before c (omega arith)
 
 module _ (rank : ℕ → ℕ) (d : Row) where
   -- Where no column is found all are zero; what is found is the pivot.

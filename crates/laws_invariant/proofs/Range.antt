@@ -8,6 +8,7 @@ use lib.ListN.{length}
 use lib.Dec.{eqb}
 use Rattle.fraction.specs.Exact.{ℚ}
 use Rattle.fraction.specs.Limits.{tested, Outside, plus, minus, times, over}
+use Rattle.answer.specs.declared.Reason.{Reason}
 use Rattle.fraction.specs.Made.{Made, made, stopped}
 use Rattle.fraction.proofs.Answers.{Answers, if_made, if_stopped, answers_bind, answers_tab}
 use Rattle.fraction.proofs.Bounded.{tested_stopped}
@@ -19,21 +20,22 @@ use Rattle.rules_run.specs.Build.{built_column, built}
 use Rattle.rules_run.specs.Merge.{State, difference, solved_column, folded_column, folded, solve}
 
 -- A step that stops only with a number outside the limits.
-abbrev pub Ranged {ℓ} : {A : Type ℓ} → Made ℕ A → Type ℓ
+abbrev pub Ranged {ℓ} : {A : Type ℓ} → Made Reason A → Type ℓ
 Ranged step = Answers (λ a. Unit) Outside step
 
 tested_ranged : (q : ℚ) → Ranged (tested q)
 tested_ranged q = by (tested q) refl
   where
-    by : (step : Made ℕ ℚ) → tested q ≡ step → Ranged step
+    by : (step : Made Reason ℚ) → tested q ≡ step → Ranged step
     by (made c) h = if_made tt
-    by (stopped number) h = if_stopped (tested_stopped q number h).1
+    by (stopped why) h = if_stopped (tested_stopped q why h).1
 
-cond_ranged : (b : Bool) {step other : Made ℕ ℚ} → Ranged step → Ranged other → Ranged (cond b step other)
-cond_ranged true first second = first
-cond_ranged false first second = second
+-- Of two steps one or the other.
+pub answers_cond : {R A : Type 0} {P : A → Type 0} {S : R → Type 0} (b : Bool) {step other : Made R A} → Answers P S step → Answers P S other → Answers P S (cond b step other)
+answers_cond true first second = first
+answers_cond false first second = second
 
-row_ranged : {g : ℕ → Made ℕ ℚ} → ((c : ℕ) → Ranged (g c)) → Ranged (row g)
+row_ranged : {g : ℕ → Made Reason ℚ} → ((c : ℕ) → Ranged (g c)) → Ranged (row g)
 unfolding row
 row_ranged each = answers_tab each COLUMNS 0
 
@@ -44,8 +46,8 @@ difference_ranged r s = row_ranged (λ c. tested_ranged _)
 pub solve_ranged : (p : ℕ) (d : Row) (state : State) → Ranged (solve p d state)
 unfolding solve folded solved_column folded_column over times plus
 solve_ranged p d state =
-    answers_bind (row_ranged (λ c. cond_ranged (eqb c p) (if_made tt) (answers_bind (tested_ranged _) (λ q made. if_made tt)))) (λ form made.
-    answers_bind (answers_tab (λ t. row_ranged (λ c. cond_ranged (eqb c p) (if_made tt) (answers_bind (tested_ranged _) (λ gained made. tested_ranged _)))) (length state.table) 0) (λ table made.
+    answers_bind (row_ranged (λ c. answers_cond (eqb c p) (if_made tt) (answers_bind (tested_ranged _) (λ q made. if_made tt)))) (λ form made.
+    answers_bind (answers_tab (λ t. row_ranged (λ c. answers_cond (eqb c p) (if_made tt) (answers_bind (tested_ranged _) (λ gained made. tested_ranged _)))) (length state.table) 0) (λ table made.
     if_made tt))
 
 column_ranged : (table : Table) (own : ℕ) (kind : Kind) (c : ℕ) → Ranged (built_column table own kind c)

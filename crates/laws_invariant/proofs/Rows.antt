@@ -6,22 +6,19 @@ use mathlib.Core.Bool.{true, and-eq-true_iff, false≢true}
 use mathlib.Core.List.{List, [], ◌∷◌, map, Memᴰ}
 use Prim.Native.Nat.{ℕ, zero, suc, ◌<◌}
 use native.Mathlib.Omega.{arith}
-use Rattle.fraction.specs.Exact.{ℚ, eq_ℚ}
+use Rattle.fraction.specs.Exact.{ℚ}
 use Rattle.fraction.proofs.Equality.{eq_ℚ_yes, eq_ℚ_same}
 use Rattle.rules_run.specs.Row.{Row, Table, COLUMNS, column, row_of, cell, same_to, same_row}
 use Rattle.rules_run.specs.Close.{same_rows}
 use Rattle.laws_invariant.specs.Rows.{EqualCells, EqualPlaces}
-use Rattle.laws_invariant.proofs.Pivot.{last_or_before}
 
 same_to_equal : (N : ℕ) (r s : Row) → (same_to N r s ≡ true) ↔ ((c : ℕ) → c < N → column r c ≡ column s c)
 unfolding same_to
 same_to_equal zero r s = (λ h c below. absurd (omega arith), λ h. refl)
-same_to_equal (suc k) r s =
-    let both = and-eq-true_iff (eq_ℚ (column r k) (column s k)) (same_to k r s) in
-    let before = same_to_equal k r s in (
-      λ h. last_or_before k (eq_ℚ_yes _ _ (both.0 h).0) (before.0 (both.0 h).1),
-      λ h. both.1 (eq_ℚ_same (h k (omega arith)), before.1 (λ c below. h c (omega arith))),
-    )
+same_to_equal (suc k) r s = (
+  λ h c below. grind (arith, eq_ℚ_yes, (same_to_equal k r s).0),
+  λ h. grind (arith, eq_ℚ_same (h k (omega arith)), (same_to_equal k r s).1 (λ c below. h c (omega arith))),
+)
 
 -- The test of two rows finds them equal exactly if they have the same number in each column.
 pub same_row_equal : (table : Table) (t u : ℕ) → (same_row table t u ≡ true) ↔ EqualCells table t u
@@ -54,8 +51,8 @@ equal_places_values table v (t ∷ ts) (u ∷ us) equal same =
 pub values_equal_places : (table : Table) (v : ℕ → ℚ) (ts us : List ℕ) → ((t u : ℕ) → Memᴰ t ts → Memᴰ u us → v t ≡ v u → EqualCells table t u) → map v ts ≡ map v us → EqualPlaces table ts us
 unfolding EqualPlaces
 values_equal_places table v [] [] equal same = tt
-values_equal_places table v [] (u ∷ us) equal same = let no_way : ◌≡◌ {A = ℕ} 0 1 = cc in omega arith
-values_equal_places table v (t ∷ ts) [] equal same = let no_way : ◌≡◌ {A = ℕ} 0 1 = cc in omega arith
+values_equal_places table v [] (u ∷ us) equal same = cc
+values_equal_places table v (t ∷ ts) [] equal same = cc
 values_equal_places table v (t ∷ ts) (u ∷ us) equal same = (
   equal t u (Memᴰ.head refl) (Memᴰ.head refl) (cc),
   values_equal_places table v ts us (λ t u first second. equal t u (Memᴰ.tail first) (Memᴰ.tail second)) (cc),

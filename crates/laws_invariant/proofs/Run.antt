@@ -56,14 +56,14 @@ module _ (rank : ℕ → ℕ) (terms : List Term) (one-to-one : OneToOne rank) (
     ends_ended : (place : ℕ) (inForce : List Pair) → inForce ≡ take place pairs → (stop : Stop) → Stopped terms inForce stop → Ended terms pairs (ends place stop)
     unfolding ends Stopped Ended
     ends_ended place inForce upto contradiction none = subst (NoneMeets terms) upto none
-    ends_ended place inForce upto (outside number) range = range
+    ends_ended place inForce upto (outside why) range = range
 
     -- Build and the first closing.
     begin_answers : Answers (Completed rank terms [] []) (Ended terms pairs) (begin rank terms)
     unfolding begin Stopped
     begin_answers =
         answers_because (ends 0)
-        (answers_bind (answers_because outside (answers_with (built_ranged terms []) (build_invariant terms shaped rank)) (λ number range. range))
+        (answers_bind (answers_because outside (answers_with (built_ranged terms []) (build_invariant terms shaped rank)) (λ why range. range))
         (λ table inv. close_answers rank terms [] [] one-to-one shaped _ inv))
         (ends_ended 0 [] refl)
 

@@ -10,13 +10,13 @@ use native.Mathlib.Omega.{arith}
 use lib.ListN.{length}
 use Rattle.whole.proofs.Solver.{ring}
 use Rattle.whole.proofs.Commutative.{combined}
-use Rattle.fraction.specs.Exact.{ℚ, zero_ℚ, one_ℚ, ◌+ℚ◌, ◌-ℚ◌, ◌*ℚ◌}
+use Rattle.fraction.specs.Exact.{ℚ, zero_ℚ, one_ℚ, ◌-ℚ◌}
 use Rattle.fraction.proofs.Equality.{ℚ-discrete}
-use Rattle.fraction.proofs.Field.{ℚ-ring, readsℚ}
+use Rattle.fraction.proofs.Field.{ℚ-ring, readsℚ, plus_zero, times_zero}
 use Rattle.laws_linear.proofs.Alone.{alone_elsewhere}
 use Rattle.laws_linear.specs.Form.{Form, eval, fold_form}
-use Rattle.laws_linear.proofs.Eval.{eval_equal, eval_minus}
-use Rattle.laws_linear.proofs.Fold.{fold_there, fold_elsewhere, fold_equal, fold_without, fold_sound}
+use Rattle.laws_linear.proofs.Eval.{zero_times, eval_equal, eval_minus}
+use Rattle.laws_linear.proofs.Fold.{fold_equal, fold_without, fold_sound}
 use Rattle.rules_problem.specs.declared.Term.{Term}
 use Rattle.rules_problem.specs.Lookup.{kind_at}
 use Rattle.rules_problem.specs.Problem.{Pair}
@@ -45,17 +45,9 @@ difference_value table t u d v differs same =
 
 -- Where a fold leaves a number, there was one, or one came in with the solved form.
 fold_nonzero : (p : ℕ) (form r : Form) (c : ℕ) → fold_form p form r c ≢ zero_ℚ → (c ≢ p) × ((r c ≢ zero_ℚ) ⊎ ((r p ≢ zero_ℚ) × (form c ≢ zero_ℚ)))
-fold_nonzero p form r c nonzero = (other, by (ℚ-discrete (r c) zero_ℚ) (ℚ-discrete (r p) zero_ℚ) (ℚ-discrete (form c) zero_ℚ))
-  where
-    other : c ≢ p
-    other same = nonzero (ap (fold_form p form r) same ∙ fold_there p form r)
-
-    by : Dec (r c ≡ zero_ℚ) → Dec (r p ≡ zero_ℚ) → Dec (form c ≡ zero_ℚ) → (r c ≢ zero_ℚ) ⊎ ((r p ≢ zero_ℚ) × (form c ≢ zero_ℚ))
-    by (no here) there came = inl here
-    by (yes none) (yes absent) came = absurd (nonzero (fold_without p form r c absent ∙ none))
-    by (yes none) (no there) (no came) = inr (there, came)
-    by (yes none) (no there) (yes empty) =
-        absurd (nonzero (fold_elsewhere other form r ∙ ap₂ (λ x y. x +ℚ r p *ℚ y) none empty ∙ ring ℚ-ring (r p ∷ []) (search readsℚ depth 20) refl))
+unfolding fold_form
+fold_nonzero p form r c nonzero =
+    grind (arith, plus_zero, times_zero, zero_times, ℚ-discrete (r c) zero_ℚ, ℚ-discrete (r p) zero_ℚ, ℚ-discrete (form c) zero_ℚ)
 
 module _ (rank : ℕ → ℕ) (terms : List Term) (inForce met : List Pair) (state after : State) (t u p : ℕ) (d : Row)
     (one-to-one : OneToOne rank) (inv : Invariant rank terms inForce met state)

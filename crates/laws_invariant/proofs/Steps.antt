@@ -1,7 +1,7 @@
 -- From bounded steps to exact ones: a step of the run that is made is the exact step.
 -- Main results: `row_made`, `difference_made`, `form_made`, `folded_made`, `solve_made`. Assume nothing.
 use mathlib.Core.Path.{◌≡◌, sym, ap, ◌∙◌}
-use mathlib.Core.Bool.{Bool, true, false, cond}
+use mathlib.Core.Bool.{cond}
 use mathlib.Core.List.{[]}
 use Prim.Native.Nat.{ℕ, suc, ◌≤◌, ◌<◌}
 use native.Mathlib.Nat.{zero-add}
@@ -9,8 +9,9 @@ use native.Mathlib.Decide.{dec_lt}
 use native.Mathlib.Omega.{arith}
 use lib.ListN.{length, get_or-eq_default}
 use lib.Dec.{eqb}
-use Rattle.fraction.specs.Exact.{ℚ, zero_ℚ, neg_ℚ, ◌+ℚ◌, ◌-ℚ◌, ◌*ℚ◌, ◌÷ℚ◌}
-use Rattle.fraction.specs.Limits.{plus, times, over}
+use Rattle.fraction.specs.Exact.{ℚ, zero_ℚ, ◌+ℚ◌, ◌-ℚ◌, ◌*ℚ◌, ◌÷ℚ◌}
+use Rattle.fraction.specs.Limits.{plus, minus, times, over}
+use Rattle.answer.specs.declared.Reason.{Reason}
 use Rattle.fraction.specs.Made.{Made, made, ◌>>=◌}
 use Rattle.fraction.proofs.Bounded.{plus_made, minus_made, times_made, over_made}
 use Rattle.fraction.proofs.Making.{bind_made, tab_length, tab_member}
@@ -20,38 +21,38 @@ use Rattle.rules_run.specs.Row.{Row, Table, COLUMNS, column, row_of, cell, row}
 use Rattle.rules_run.specs.Merge.{State, difference, solved_column, folded_column, folded, solve}
 use Rattle.laws_invariant.specs.Rows.{solved_form}
 
+-- What an operation makes is exact.
+pub plus_is : (a b q : ℚ) → plus a b ≡ made q → a +ℚ b ≡ q
+plus_is a b q h = sym (plus_made a b q h).0
+
+pub minus_is : (a b q : ℚ) → minus a b ≡ made q → a -ℚ b ≡ q
+minus_is a b q h = sym (minus_made a b q h).0
+
+pub times_is : (a b q : ℚ) → times a b ≡ made q → a *ℚ b ≡ q
+times_is a b q h = sym (times_made a b q h).0
+
+over_is : (a b q : ℚ) → over a b ≡ made q → a ÷ℚ b ≡ q
+over_is a b q h = sym (over_made a b q h).0
+
 -- Each column of a row that is made is what g makes there.
-pub row_made : (g : ℕ → Made ℕ ℚ) (r : Row) → row g ≡ made r → (c : ℕ) → c < COLUMNS → g c ≡ made (column r c)
+pub row_made : (g : ℕ → Made Reason ℚ) (r : Row) → row g ≡ made r → (c : ℕ) → c < COLUMNS → g c ≡ made (column r c)
 unfolding row column
 row_made g r h c below = rw zero-add at (tab_member g COLUMNS 0 r h zero_ℚ c below)
 
 -- A difference of rows that is made is the difference in each column.
 pub difference_made : (r s d : Row) → difference r s ≡ made d → (c : ℕ) → c < COLUMNS → column d c ≡ column r c -ℚ column s c
 unfolding difference
-difference_made r s d h c below = (minus_made (column r c) (column s c) (column d c) (row_made _ d h c below)).0
+difference_made r s d h c below = sym (minus_is _ _ _ (row_made _ d h c below))
 
 -- A solved row that is made is the solved form.
 pub form_made : (p : ℕ) (d form : Row) → row (solved_column p d) ≡ made form → (c : ℕ) → c < COLUMNS → column form c ≡ solved_form p (column d) c
-unfolding solved_column solved_form
-form_made p d form h c below = by (eqb c p) (row_made _ form h c below)
-  where
-    by : (b : Bool) → cond b (made zero_ℚ) (over (column d c) (column d p) >>= λ q. made (neg_ℚ q)) ≡ made (column form c) → column form c ≡ cond b zero_ℚ (neg_ℚ (column d c ÷ℚ column d p))
-    by true same = cc
-    by false same =
-        let (q, first, second) = bind_made (over (column d c) (column d p)) (λ q. made (neg_ℚ q)) _ same in
-        let exact : q ≡ column d c ÷ℚ column d p = (over_made _ _ q first).0 in
-        cc
+unfolding solved_column solved_form ◌>>=◌
+form_made p d form h c below = grind (arith, over_is, row_made _ form h c below)
 
 -- A folded column that is made is the fold.
 folded_column_lem : (p : ℕ) (form r : Row) (c : ℕ) (q : ℚ) → folded_column p form r c ≡ made q → q ≡ fold_form p (column form) (column r) c
-unfolding folded_column fold_form
-folded_column_lem p form r c q h = by (eqb c p) h
-  where
-    by : (b : Bool) → cond b (made zero_ℚ) (times (column r p) (column form c) >>= λ gained. plus (column r c) gained) ≡ made q → q ≡ cond b zero_ℚ (column r c +ℚ column r p *ℚ column form c)
-    by true same = cc
-    by false same =
-        let (gained, first, second) = bind_made (times (column r p) (column form c)) (λ gained. plus (column r c) gained) q same in
-        (plus_made _ gained q second).0 ∙ ap (λ x. column r c +ℚ x) (times_made _ _ gained first).0
+unfolding folded_column fold_form ◌>>=◌
+folded_column_lem p form r c q h = grind (arith, plus_is, times_is)
 
 -- A row past the last term is zero.
 pub cell_past : (table : Table) (t c : ℕ) → length table ≤ t → cell table t c ≡ zero_ℚ

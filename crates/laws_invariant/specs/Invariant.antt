@@ -106,11 +106,11 @@ pub record Completed (rank : ℕ → ℕ) (terms : List Term) (inForce met : Lis
 -- What a stop means with the assumptions `inForce`: no valuation meets them, or a number was outside the limits.
 unfoldable pub Stopped : List Term → (inForce : List Pair) → Stop → Type 0
 Stopped terms inForce contradiction = NoneMeets terms inForce
-Stopped terms inForce (outside number) = Outside number
+Stopped terms inForce (outside why) = Outside why
 
 -- What an answer means that a run stops with: no valuation meets the assumptions up to the place, or a number was outside the limits.
 unfoldable pub Ended : List Term → List Pair → Answer → Type 0
 Ended terms pairs (Entailed solved) = ⊥
 Ended terms pairs (NotEntailed solved) = ⊥
 Ended terms pairs (Contradictory place) = NoneMeets terms (take place pairs)
-Ended terms pairs (Refused number place) = Outside number
+Ended terms pairs (Refused why place) = Outside why

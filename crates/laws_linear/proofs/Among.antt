@@ -3,9 +3,9 @@
 -- Main results: `among_but`, `among_pairs`, `free_number`. Assume nothing.
 use mathlib.Core.Path.{◌≡◌, refl, sym, ap, ◌∙◌}
 use Prim.Native.Nat.{ℕ, zero, suc, ◌+◌, ◌-◌, ◌*◌, ◌/◌, ◌≤◌, ◌<◌}
-use native.Mathlib.Decide.{ℕ_discrete}
 use native.Mathlib.Nat.{mul-div_cancel, mul-suc, suc-mul}
 use native.Mathlib.Omega.{arith}
+use Rattle.laws_linear.proofs.Upto.{last_or_before}
 
 -- Among any m + 1 different numbers there is one with the property.
 record OneAmong (m : ℕ) (P : ℕ → Type 0) : Type 0 where
@@ -41,12 +41,8 @@ among_but {m} {P} Bad test once found = record {
 among_each : {m : ℕ} {P : ℕ → Type 0} (count : ℕ) (Bad : ℕ → ℕ → Type 0) → ((k q : ℕ) → Dec (Bad k q)) → ((k q s : ℕ) → Bad k q → Bad k s → q ≡ s) → OneAmong m P → OneAmong (m + count) (λ q. P q × ((k : ℕ) → k < count → Bad k q → ⊥))
 among_each zero Bad test once found = among_more (omega arith) (λ q good. (good, λ k h. absurd (omega arith))) found
 among_each {m} {P} (suc count) Bad test once found =
-    among_more (omega arith) (λ q good. (good.0.0, λ k h. last q good k h (ℕ_discrete k count)))
+    among_more (omega arith) (λ q good. (good.0.0, last_or_before {P = λ k. Bad k q → ⊥} count good.1 good.0.1))
     (among_but (Bad count) (test count) (once count) (among_each count Bad test once found))
-  where
-    last : (q : ℕ) → (P q × ((k : ℕ) → k < count → Bad k q → ⊥)) × (Bad count q → ⊥) → (k : ℕ) → k < suc count → Dec (k ≡ count) → Bad k q → ⊥
-    last q good k h (yes same) bad = good.1 (rw same at bad)
-    last q good k h (no before) bad = good.0.1 k (omega arith) bad
 
 -- the number of pairs below n
 triangle : ℕ → ℕ
@@ -70,12 +66,8 @@ among_pairs : (n : ℕ) (Bad : ℕ → ℕ → ℕ → Type 0) → ((t u q : ℕ
 unfolding triangle
 among_pairs zero Bad test once = record { among = λ e different. (0, omega arith, λ t u h k. absurd (omega arith)) }
 among_pairs (suc n) Bad test once =
-    among_more (omega arith) (λ q good t u h k. last q good t u h k (ℕ_discrete u n))
+    among_more (omega arith) (λ q good t u h k. last_or_before {P = λ u. t < u → Bad t u q → ⊥} n (good.1 t) (λ u k h. good.0 t u h k) u k h)
     (among_each n (λ t. Bad t n) (λ t. test t n) (λ t. once t n) (among_pairs n Bad test once))
-  where
-    last : (q : ℕ) → ((t u : ℕ) → t < u → u < n → Bad t u q → ⊥) × ((t : ℕ) → t < n → Bad t n q → ⊥) → (t u : ℕ) → t < u → u < suc n → Dec (u ≡ n) → Bad t u q → ⊥
-    last q good t u h k (yes same) bad = good.1 t (omega arith) (rw same at bad)
-    last q good t u h k (no before) bad = good.0 t u h (omega arith) bad
 
 -- Where each pair below n forbids one number at most, some number up to n(n - 1)/2 is free.
 pub free_number : (n : ℕ) (Bad : ℕ → ℕ → ℕ → Type 0) → ((t u q : ℕ) → Dec (Bad t u q)) → ((t u q s : ℕ) → Bad t u q → Bad t u s → q ≡ s) → (q : ℕ) × (q ≤ n * (n - 1) / 2) × ((t u : ℕ) → t < u → u < n → Bad t u q → ⊥)

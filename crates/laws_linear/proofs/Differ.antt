@@ -2,9 +2,9 @@
 -- Main results: `same_or_differ`, `differ_not_same`, `differ_symmetric`, `dec_same`, `dec_differ`. Assume nothing.
 use mathlib.Core.Path.{◌≡◌, sym}
 use mathlib.Core.Logic.{◌⊎◌, inl, inr, ⊎_elim}
-use Prim.Native.Nat.{ℕ, zero, suc, ◌≤◌}
-use native.Mathlib.Decide.{ℕ_discrete}
+use Prim.Native.Nat.{ℕ, zero, suc}
 use native.Mathlib.Omega.{arith}
+use Rattle.laws_linear.proofs.Upto.{last_or_before}
 use Rattle.fraction.proofs.Equality.{ℚ-discrete}
 use Rattle.laws_linear.specs.Apart.{Same, Differ}
 use Rattle.laws_linear.specs.Form.{Form}
@@ -18,14 +18,10 @@ same_or_differ zero f g = by (ℚ-discrete (f 0) (g 0))
     by (no other) = inr (record { column = 0; within = omega arith; differs = other })
 same_or_differ (suc k) f g = by (same_or_differ k f g) (ℚ-discrete (f (suc k)) (g (suc k)))
   where
-    last : Same k f g → f (suc k) ≡ g (suc k) → (c : ℕ) → c ≤ suc k → Dec (c ≡ suc k) → f c ≡ g c
-    last below same c h (yes there) = rw there same
-    last below same c h (no before) = below c (omega arith)
-
     by : Same k f g ⊎ Differ k f g → Dec (f (suc k) ≡ g (suc k)) → Same (suc k) f g ⊎ Differ (suc k) f g
     by (inr d) here = inr (record { column = d.column; within = omega arith; differs = d.differs })
     by (inl below) (no other) = inr (record { column = suc k; within = omega arith; differs = other })
-    by (inl below) (yes same) = inl (λ c h. last below same c h (ℕ_discrete c (suc k)))
+    by (inl below) (yes same) = inl (λ c h. last_or_before (suc k) same (λ c h. below c (omega arith)) c (omega arith))
 
 -- Forms that differ are not the same, and differ the other way round too.
 pub differ_not_same : {N : ℕ} {f g : Form} → Differ N f g → Same N f g → ⊥

@@ -15,17 +15,18 @@ use Rattle.laws_linear.specs.Form.{Form, sum, eval}
 use Rattle.laws_linear.proofs.Alone.{alone_there, alone_elsewhere}
 use Rattle.laws_linear.proofs.Sum.{sum_equal, sum_plus, sum_times, sum_zeros, sum_but_one, sum_single, sum_exchange}
 
-zero_times : (a : ℚ) → zero_ℚ *ℚ a ≡ zero_ℚ
+pub zero_times : (a : ℚ) → zero_ℚ *ℚ a ≡ zero_ℚ
 zero_times a = times_comm zero_ℚ a ∙ times_zero a
+
+-- Multiples are equal where the numbers are, or the factor is zero.
+pub times_equal : (a : ℚ) {x y : ℚ} → (a ≢ zero_ℚ → x ≡ y) → a *ℚ x ≡ a *ℚ y
+times_equal a same = grind (arith, ℚ-discrete a zero_ℚ, zero_times)
 
 -- Forms with equal columns have equal values where the values of the columns are equal that have a coefficient other than zero.
 pub eval_equal : (N : ℕ) {f g : Form} {v w : ℕ → ℚ} → ((c : ℕ) → c ≤ N → f c ≡ g c) → ((c : ℕ) → c < N → f c ≢ zero_ℚ → v c ≡ w c) → eval N f v ≡ eval N g w
 unfolding eval
-eval_equal N {f} {g} {v} {w} same values = ap₂ ◌+ℚ◌ (sum_equal N (λ c h. by c h (ℚ-discrete (f c) zero_ℚ) ∙ ap (λ x. x *ℚ w c) (same c (omega arith)))) (same N (omega arith))
-  where
-    by : (c : ℕ) → c < N → Dec (f c ≡ zero_ℚ) → f c *ℚ v c ≡ f c *ℚ w c
-    by c h (yes none) = rw none (zero_times (v c) ∙ sym (zero_times (w c)))
-    by c h (no some) = ap (λ x. f c *ℚ x) (values c h some)
+eval_equal N {f} {w = w} same values =
+    ap₂ ◌+ℚ◌ (sum_equal N (λ c h. times_equal (f c) (values c h) ∙ ap (λ x. x *ℚ w c) (same c (omega arith)))) (same N (omega arith))
 
 -- Evaluation is linear in the form: sums, multiples, differences, opposites, sums of many.
 pub eval_plus : (N : ℕ) (f g : Form) (v : ℕ → ℚ) → eval N (λ c. f c +ℚ g c) v ≡ eval N f v +ℚ eval N g v

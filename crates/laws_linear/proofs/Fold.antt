@@ -6,6 +6,7 @@ use mathlib.Core.Bool.{Bool, true, false, cond}
 use mathlib.Core.List.{[], ◌∷◌}
 use Prim.Native.Nat.{ℕ, ◌<◌}
 use lib.Dec.{eqb}
+use native.Mathlib.Omega.{arith}
 use native.Mathlib.Decide.{ℕ_discrete}
 use Rattle.whole.proofs.Commutative.{combined}
 use Rattle.whole.proofs.Solver.{ring}
@@ -13,7 +14,7 @@ use Rattle.fraction.specs.Exact.{ℚ, zero_ℚ, one_ℚ, ◌+ℚ◌, neg_ℚ, �
 use Rattle.fraction.proofs.Field.{ℚ-ring, readsℚ, plus_zero}
 use Rattle.laws_linear.specs.Form.{Form, eval, fold_form}
 use Rattle.laws_linear.proofs.Alone.{at_column, off_column}
-use Rattle.laws_linear.proofs.Eval.{eval_equal, eval_plus, eval_times, eval_but_one}
+use Rattle.laws_linear.proofs.Eval.{zero_times, eval_equal, eval_plus, eval_times, eval_but_one}
 
 -- A fold leaves zero in the column of the solved unknown, and in each other column gains the coefficient times the solved column.
 pub fold_there : (p : ℕ) (solved r : Form) → fold_form p solved r p ≡ zero_ℚ
@@ -56,11 +57,8 @@ fold_minus p solved f g c = by (eqb c p)
 
 -- A fold changes nothing in a form without the solved unknown.
 pub fold_without : (p : ℕ) (solved r : Form) (c : ℕ) → r p ≡ zero_ℚ → fold_form p solved r c ≡ r c
-fold_without p solved r c none = by (ℕ_discrete c p)
-  where
-    by : Dec (c ≡ p) → fold_form p solved r c ≡ r c
-    by (yes there) = rw there (fold_there p solved r ∙ sym none)
-    by (no other) = fold_elsewhere other solved r ∙ combined ℚ-ring (solved c) none (ring ℚ-ring (r c ∷ r p ∷ solved c ∷ []) (search readsℚ depth 20) refl)
+unfolding fold_form
+fold_without p solved r c none = grind (arith, plus_zero, zero_times)
 
 -- Two folds change places (request #110): folding p and then q is folding q into the row and into the form of p, and then p.
 pub fold_commutes : (p q : ℕ) (form other r : Form) (c : ℕ) → q ≢ p → other p ≡ zero_ℚ → fold_form q other (fold_form p form r) c ≡ fold_form p (fold_form q other form) (fold_form q other r) c

@@ -6,3 +6,4 @@ pub mod Fixed
 pub mod Fold
 pub mod Spread
 pub mod Sum
+pub mod Upto

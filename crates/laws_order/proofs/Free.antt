@@ -1,6 +1,7 @@
 -- Unsolved unknowns are free: a form over them that vanishes wherever the assumptions are met is zero.
 -- Main results: `zero_unless`, `image_vanishes`, `free`. Assume nothing.
 use mathlib.Core.Path.{◌≡◌, sym, ap, ap₂, ◌∙◌}
+use mathlib.Core.Logic.Dec
 use mathlib.Core.Logic.{◌≢◌}
 use mathlib.Core.List.{List}
 use Prim.Native.Nat.{ℕ, zero, suc, ◌≤◌, ◌<◌}
@@ -10,9 +11,10 @@ use lib.ListN.{length}
 use Rattle.whole.proofs.Commutative.{zero_add}
 use Rattle.fraction.specs.Exact.{ℚ, zero_ℚ, one_ℚ, ◌+ℚ◌, ◌*ℚ◌}
 use Rattle.fraction.proofs.Equality.{ℚ-discrete}
-use Rattle.fraction.proofs.Field.{ℚ-ring, plus_zero, times_one, times_zero, times_comm}
+use Rattle.fraction.proofs.Field.{ℚ-ring, plus_zero, times_one, times_zero}
 use Rattle.laws_linear.specs.Form.{Form, sum, eval}
 use Rattle.laws_linear.proofs.Alone.{alone_there, alone_elsewhere}
+use Rattle.laws_linear.proofs.Eval.{zero_times, times_equal}
 use Rattle.laws_linear.proofs.Sum.{sum_equal, sum_zeros, sum_single}
 use Rattle.rules_problem.specs.declared.Term.{Term}
 use Rattle.rules_problem.specs.Problem.{Pair}
@@ -35,16 +37,9 @@ sum_shorter n (suc N) g most none = by (ℕ_discrete n (suc N)) (sum_shorter n N
     by (yes all) before = ap (λ k. sum k g) all
     by (no other) before = before (omega arith) (λ c from below. none c from (omega arith)) ∙ sym (ap (λ x. sum N g +ℚ x) (none N (omega arith) (omega arith)) ∙ plus_zero (sum N g))
 
-pub zero_times : (x : ℚ) → zero_ℚ *ℚ x ≡ zero_ℚ
-zero_times x = times_comm zero_ℚ x ∙ times_zero x
-
 -- What cannot be other than zero is zero.
 pub zero_unless : (q : ℚ) → (q ≢ zero_ℚ → ⊥) → q ≡ zero_ℚ
-zero_unless q never = by (ℚ-discrete q zero_ℚ)
-  where
-    by : Dec (q ≡ zero_ℚ) → q ≡ zero_ℚ
-    by (yes none) = none
-    by (no other) = absurd (never other)
+zero_unless q never = (Dec.not-not (ℚ-discrete q zero_ℚ)).0 never
 
 module _ {rank : ℕ → ℕ} {terms : List Term} {pairs : List Pair} {state : State} (shaped : Shaped terms) (complete : Completed rank terms pairs pairs state) (f : Form) (vanishes : (v : ℕ → ℚ) → Valuation terms v → ValuesMeet v pairs → eval TERMS f v ≡ zero_ℚ) where
   -- D2w on forms: where a form vanishes wherever the assumptions are met, rows put for its columns give the zero row.
@@ -61,11 +56,7 @@ module _ {rank : ℕ → ℕ} {terms : List Term} {pairs : List Pair} {state : S
 
     -- An unsolved unknown's row is 1 at itself,
     own : (t c : ℕ) → t < length terms → c ≤ TERMS → f t *ℚ cell state.table t c ≡ f t *ℚ alone t one_ℚ c
-    own t c below inside = by (ℚ-discrete (f t) zero_ℚ)
-      where
-        by : Dec (f t ≡ zero_ℚ) → f t *ℚ cell state.table t c ≡ f t *ℚ alone t one_ℚ c
-        by (yes none) = rw none (zero_times (cell state.table t c) ∙ sym (zero_times (alone t one_ℚ c)))
-        by (no other) = let fits = shaped.fits in ap (λ x. f t *ℚ x) ((unsolved t (omega arith) other).itself c (column_below inside))
+    own t c below inside = let fits = shaped.fits in times_equal (f t) (λ some. (unsolved t (omega arith) some).itself c (column_below inside))
 
     -- so a form over unsolved unknowns is its own image: if it vanishes wherever the assumptions are met, it is zero.
     pub free : (c : ℕ) → c ≤ TERMS → f c ≡ zero_ℚ

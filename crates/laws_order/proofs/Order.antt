@@ -5,7 +5,9 @@ use mathlib.Core.Path.{◌≡◌, refl, ap}
 use mathlib.Core.Bool.{Bool, true, false}
 use mathlib.Core.List.{List}
 use Prim.Native.Nat.{ℕ}
-use Rattle.answer.specs.Refusals.{Refusal, SPACE}
+use Rattle.answer.specs.declared.Refusal.{Refusal}
+use Rattle.answer.specs.declared.Reason.TheVariants as reason
+use Rattle.answer.specs.Refusals.{number_of}
 use Rattle.answer.specs.Said.{said}
 use Rattle.fraction.specs.Made.{Made, made, stopped}
 use Rattle.rules_problem.specs.Problem.{Problem, decoded}
@@ -33,8 +35,8 @@ accepted ranking bytes lent passed = by (is_long lent) (decoded bytes) refl refl
     by : (b : Bool) (d : Made Refusal Problem) → is_long lent ≡ b → decoded bytes ≡ d → Accepted bytes lent
     by true (made problem) fits read = record { long = long_is lent fits; problem = problem; read = read }
     by true (stopped refusal) fits read =
-        absurd (passed refusal.number (rw (outcome_answer ranking bytes lent (long_is lent fits), read)))
-    by false d short read = absurd (passed SPACE (ap (λ o. (said o.answer).word) (outcome_short ranking bytes lent short)))
+        absurd (passed (number_of refusal.reason) (rw (outcome_answer ranking bytes lent (long_is lent fits), read)))
+    by false d short read = absurd (passed (number_of reason.Space) (ap (λ o. (said o.answer).word) (outcome_short ranking bytes lent short)))
 
 module _ (ranking : Ranking) (strict : Strict ranking) where
   -- Demand 3, for the rules; the table that is the same is the true one of demand 2.

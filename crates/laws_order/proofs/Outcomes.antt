@@ -9,7 +9,8 @@ use native.Mathlib.Omega.{arith}
 use lib.IntN.{pos}
 use Rattle.answer.specs.declared.Answer.{Answer}
 use Rattle.answer.specs.declared.Answer.TheVariants.{Contradictory}
-use Rattle.answer.specs.Refusals.{SPACE}
+use Rattle.answer.specs.declared.Reason.TheVariants as reason
+use Rattle.answer.specs.Refusals.{number_of}
 use Rattle.answer.specs.Said.{said}
 use Rattle.fraction.specs.Made.{Made, made, stopped}
 use Rattle.rules_problem.specs.Problem.{Problem, decoded}
@@ -43,7 +44,7 @@ module _ (ranking : Ranking) (strict : Strict ranking) where
   contradicts : {problem : Problem} → Sound problem → (lent : Lent) (answer : Answer) → run ranking problem ≡ stopped answer → NotRefused (after (cut_short answer) lent) → (place : ℕ) × (answer ≡ Contradictory place)
   unfolding NotRefused word_of after said
   contradicts {problem} sound lent answer h accepted =
-      ⊎_elim (λ says. says) (λ range. absurd (accepted range.0 (ap (λ a. (said a).word) range.3))) (stopped_either ranking problem strict sound answer h)
+      ⊎_elim (λ says. says) (λ range. absurd (accepted (number_of range.0) (ap (λ a. (said a).word) range.3))) (stopped_either ranking problem strict sound answer h)
 
   module _ {p q : Problem} (sound : Sound p) (sound' : Sound q) (same : SameUpToOrder p q) (lent lent' : Lent) (long : Long lent) (long' : Long lent') where
     -- Both runs finish: the same answer and the same table.
@@ -120,6 +121,6 @@ module _ (ranking : Ranking) (strict : Strict ranking) where
       by_run (made state) h = rw (judged_count, ← unknowns_counted) (run_count ranking problem strict (sound_shaped problem sound) (sound_sides problem sound) state h)
       by_run (stopped answer) h = none (⊎_elim (λ says. ap (λ a. (said a).count) says.1) (λ says. ap (λ a. (said a).count) says.3) (stopped_either ranking problem strict sound answer h))
 
-      by : (b : Bool) → (said (cond b (after (decision ranking bytes) lent) (after (unread (record { number = SPACE; place = 0 })) lent)).answer).count ≤ unknowns problem.terms
+      by : (b : Bool) → (said (cond b (after (decision ranking bytes) lent) (after (unread (record { reason = reason.Space; place = 0 })) lent)).answer).count ≤ unknowns problem.terms
       by true = rw read (by_run (run ranking problem) refl)
       by false = none refl

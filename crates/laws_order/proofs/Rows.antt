@@ -15,7 +15,7 @@ use Rattle.fraction.proofs.Equality.{ℚ-discrete}
 use Rattle.fraction.proofs.Field.{ℚ-ring, readsℚ, plus_zero, times_zero, difference_zero, one_not_zero}
 use Rattle.laws_linear.specs.Form.{Form, eval}
 use Rattle.laws_linear.proofs.Alone.{alone_there, alone_elsewhere}
-use Rattle.laws_linear.proofs.Eval.{eval_minus}
+use Rattle.laws_linear.proofs.Eval.{zero_times, eval_minus}
 use Rattle.laws_linear.proofs.Sum.{sum_single}
 use Rattle.rules_problem.specs.declared.Term.{Term}
 use Rattle.rules_problem.specs.Lookup.{kind_at}
@@ -31,7 +31,7 @@ use Rattle.laws_invariant.proofs.Solved.{unsolved_there}
 use Rattle.laws_invariant.proofs.Steps.{cell_past}
 use Rattle.laws_invariant.proofs.Units.{alone_value, column_below}
 use Rattle.laws_truth.specs.Sums.{weighted, weighted_row}
-use Rattle.laws_order.proofs.Free.{zero_unless, zero_times, image_vanishes, free}
+use Rattle.laws_order.proofs.Free.{zero_unless, image_vanishes, free}
 
 -- The test of two rows depends on their numbers only.
 same_to_congruent : (N : ℕ) (r r' s s' : Row) → ((c : ℕ) → c < N → column r c ≡ column r' c) → ((c : ℕ) → c < N → column s c ≡ column s' c) → same_to N r s ≡ same_to N r' s'

@@ -56,7 +56,7 @@ pub not_refused : (bytes : List ℕ) (lent : Lent) → Long lent → (computed_a
 unfolding NotRefused word_of computed_answer
 not_refused bytes lent long says number refuses =
     let same = ap (λ a. (said a).word) (outcome_answer highest_number bytes lent long) in
-    let no_way : ◌≡◌ {A = ℕ} 0 1 = cc in omega arith
+    cc
 
 -- so in lists that are long enough both end the same.
 shown : (lent lent' : Lent) → Long lent → Long lent' → SameOutcome (outcome highest_number once lent) (outcome highest_number twice lent')

@@ -2,7 +2,7 @@
 -- Main results: `equal_values`, `model_valued`, `model_meets` (A3). Assume nothing.
 use mathlib.Core.Path.{◌≡◌, refl, ap, ◌∙◌}
 use mathlib.Core.Logic.{◌↔◌, ⊎_elim}
-use mathlib.Core.List.{List, Memᴰ}
+use mathlib.Core.List.{List}
 use Prim.Native.Nat.{ℕ, ◌≤◌, ◌<◌}
 use native.Mathlib.Omega.{arith}
 use lib.ListN.{length}
@@ -19,7 +19,8 @@ use Rattle.rules_run.specs.Build.{alone}
 use Rattle.rules_run.specs.Merge.{State}
 use Rattle.laws_invariant.specs.Rows.{EqualCells, ClosedTable}
 use Rattle.laws_invariant.specs.Invariant.{Shaped, ValuesMeet, Completed}
-use Rattle.laws_valuation.proofs.Readings.{lookup_inputs}
+use Rattle.laws_valuation.specs.Written.{Written}
+use Rattle.laws_valuation.proofs.Readings.{inputs_below}
 use Rattle.laws_invariant.proofs.Lin.{lin_commutes, eval_linear}
 use Rattle.laws_invariant.proofs.Rows.{values_equal_places}
 use Rattle.laws_invariant.proofs.Units.{column_below, constant_value}
@@ -54,12 +55,12 @@ module _ {rank : ℕ → ℕ} {terms : List Term} {inForce met : List Pair} {sta
     congruent = λ i j before below similar inputs.
         equal_rows_values state.table a i j (complete.closed i j before below similar
         (values_equal_places state.table (value_at state.table a) (inputs_of (kind_at terms i)) (inputs_of (kind_at terms j))
-        (λ t u first second. (equal_values (length terms) state.table a apart t u (input i (omega arith) t first) (input j below u second)).0)
+        (λ t u first second. (equal_values (length terms) state.table a apart t u (inputs_below terms written i (omega arith) t first) (inputs_below terms written j below u second)).0)
         inputs));
   }
     where
-      input : (t : ℕ) → t < length terms → (i : ℕ) → Memᴰ i (inputs_of (kind_at terms t)) → i < length terms
-      input t below i first = omega (arith, shaped.earlier t below i (lookup_inputs (kind_at terms t) i first))
+      written : Written terms
+      written = record { earlier = shaped.earlier }
 
   -- It meets every assumption that has been met, at any point (I5).
   pub model_meets : ValuesMeet (value_at state.table a) met

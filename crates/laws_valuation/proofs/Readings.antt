@@ -43,8 +43,8 @@ obeys_iff number D v own (Lookup1 symbol input) self over = (λ obeys. refl, λ 
 obeys_iff number D v own (Lookup2 symbol first second) self over = (λ obeys. refl, λ same. tt)
 obeys_iff number D v own (Lookup3 symbol first second third) self over = (λ obeys. refl, λ same. tt)
 
--- The inputs of a lookup are among its inputs as a term.
-pub lookup_inputs : (kind : Kind) (i : ℕ) → Memᴰ i (inputs_of kind) → Memᴰ i (all_inputs kind)
+-- The inputs of a lookup are among its inputs as a term, so they are terms of the list.
+lookup_inputs : (kind : Kind) (i : ℕ) → Memᴰ i (inputs_of kind) → Memᴰ i (all_inputs kind)
 unfolding all_inputs inputs_of call_of
 lookup_inputs (Variable symbol) i h = h
 lookup_inputs (Constant held) i h = h
@@ -54,6 +54,9 @@ lookup_inputs (Difference left right) i h = absurd (Memᴰ.not-nil h)
 lookup_inputs (Lookup1 symbol input) i h = h
 lookup_inputs (Lookup2 symbol first second) i h = h
 lookup_inputs (Lookup3 symbol first second third) i h = h
+
+pub inputs_below : (terms : List Term) → Written terms → (t : ℕ) → t < length terms → (i : ℕ) → Memᴰ i (inputs_of (kind_at terms t)) → i < length terms
+inputs_below terms written t below i member = omega (arith, written.earlier t below i (lookup_inputs (kind_at terms t) i member))
 
 -- where equal numbers of f are equal numbers of g, equal lists of f are equal lists of g
 map_equal : {A B : Type 0} (f : ℕ → A) (g : ℕ → B) (is js : List ℕ) → ((i j : ℕ) → Memᴰ i is → Memᴰ j js → f i ≡ f j → g i ≡ g j) → map f is ≡ map f js → map g is ≡ map g js
@@ -67,10 +70,7 @@ map_equal f g (i ∷ is) (j ∷ js) equal same =
 inputs_equal : {A B : Type 0} (terms : List Term) → Written terms → (f : ℕ → A) (g : ℕ → B) → ((i j : ℕ) → i < length terms → j < length terms → f i ≡ f j → g i ≡ g j) → (i j : ℕ) → i < length terms → j < length terms → map f (inputs_of (kind_at terms i)) ≡ map f (inputs_of (kind_at terms j)) → map g (inputs_of (kind_at terms i)) ≡ map g (inputs_of (kind_at terms j))
 inputs_equal terms written f g equal i j h k =
     map_equal f g (inputs_of (kind_at terms i)) (inputs_of (kind_at terms j))
-    (λ a b l m. equal a b (inside i h a l) (inside j k b m))
-  where
-    inside : (t : ℕ) → t < length terms → (i : ℕ) → Memᴰ i (inputs_of (kind_at terms t)) → i < length terms
-    inside t h i l = let before : i < t = written.earlier t h i (lookup_inputs (kind_at terms t) i l) in omega arith
+    (λ a b l m. equal a b (inputs_below terms written i h a l) (inputs_below terms written j k b m))
 
 value_in_is : {terms : List Term} (r : Reading terms) (t : ℕ) → Is (value_in r t) (r.number t) r.divisor
 unfolding value_in

@@ -1,23 +1,20 @@
 -- The test of a place: what it takes to be a fraction in lowest terms within the limits.
--- Main results: `fraction_is`, `fraction_not_low`, `fraction_not_wide`, `fraction_by_gcd`, `tested_low`, `tested_by_gcd`. Assume nothing.
-use mathlib.Core.Path.{◌≡◌, refl, sym, ap, ap₂, ◌∙◌}
+-- Main result: `fraction_is`. Assumes nothing.
+use mathlib.Core.Path.{◌≡◌, refl}
 use mathlib.Core.Bool.{Bool, true, false, ◌&&◌}
-use Prim.Native.Nat.{ℕ, ◌≤◌, ◌<◌}
+use Prim.Native.Nat.{◌≤◌}
 use native.Mathlib.Omega.{arith}
 use lib.Dec.{eqb, leb}
 use lib.IntN.{ℤ, pos, negsuc, nat_abs}
-use lib.Signed.{le_z, lt_z}
-use mir.Syntax.{w32}
-use mir.Val.{SFits, to_z, of_z}
-use mir.Facts.{to_z-of_z}
-use borrow.Author.Tests.{leb-true, eqb-true, le-leb, lt-leb, lt-ltb, ltb-true, ltb-false}
+use lib.Signed.{le_z}
+use borrow.Author.Tests.{leb-true, eqb-true}
 use Rattle.whole.specs.Gcd.{gcd}
 use Rattle.fraction.specs.Limits.{limit}
 use Rattle.rules_listing.specs.Listing.{is_fraction}
 
 pub and_true : (a b : Bool) → (a && b) ≡ true → (a ≡ true) × (b ≡ true)
 and_true true b h = (refl, h)
-and_true false b h = let no_way : ◌≡◌ {A = ℕ} 0 1 = cc in absurd (omega arith)
+and_true false b h = cc
 
 pub and_false : (a : Bool) → (a && false) ≡ false
 and_false true = refl
@@ -46,56 +43,3 @@ fraction_is num den h =
       above = leb-true (nat_abs num) limit above;
       lowest = eqb-true (gcd (nat_abs num) (nat_abs den)) 1 lowest;
     }
-
-low : (den : ℤ) → lt_z den (pos 1) ≡ true → le_z (pos 1) den ≡ false
-low (pos n) h = lt-leb 1 n (omega (arith, ltb-true n 1 h))
-low (negsuc n) h = refl
-
-not_low : (den : ℤ) → lt_z den (pos 1) ≡ false → le_z (pos 1) den ≡ true
-not_low (pos n) h = le-leb 1 n (omega (arith, ltb-false n 1 h))
-not_low (negsuc n) h = let no_way : ◌≡◌ {A = ℕ} 0 1 = cc in absurd (omega arith)
-
--- A denominator below 1 is none.
-pub fraction_not_low : (num den : ℤ) → lt_z den (pos 1) ≡ true → is_fraction num den ≡ false
-unfolding is_fraction
-fraction_not_low num den h = rw (low den h)
-
--- Nor is a numerator beyond the limit.
-pub fraction_not_wide : (num den : ℤ) → limit < nat_abs num → is_fraction num den ≡ false
-unfolding is_fraction
-fraction_not_wide num den h = rw (lt-leb (nat_abs num) limit h, and_false)
-
--- a positive number of 32 bits is within the limit
-word_below : (den : ℤ) → lt_z den (pos 1) ≡ false → SFits w32 den → nat_abs den ≤ limit
-unfolding limit
-word_below (pos n) h fits = let bound = fits.sfits in omega arith
-word_below (negsuc n) h fits = let no_way : ◌≡◌ {A = ℕ} 0 1 = cc in absurd (omega arith)
-
--- Otherwise the greatest common divisor decides.
-pub fraction_by_gcd : (num den : ℤ) → lt_z den (pos 1) ≡ false → SFits w32 den → nat_abs num ≤ limit → is_fraction num den ≡ eqb (gcd (nat_abs num) (nat_abs den)) 1
-unfolding is_fraction
-fraction_by_gcd num den h fits above = rw (not_low den h, le-leb (nat_abs den) limit (word_below den h fits), le-leb (nat_abs num) limit above)
-
--- The tests of the code, on numbers of 32 bits: below 1,
-pub tested_low : (num den : ℤ) (n : ℕ) → SFits w32 den → lt_z (to_z w32 (of_z w32 den)) (pos n) ≡ true → n ≤ 1 → false ≡ is_fraction num den
-tested_low num den n fits low least = sym (fraction_not_low num den (lower den n (rw (to_z-of_z {w = w32} fits) at low) least))
-  where
-    lower : (den : ℤ) (n : ℕ) → lt_z den (pos n) ≡ true → n ≤ 1 → lt_z den (pos 1) ≡ true
-    lower (pos m) n h least = lt-ltb m 1 (omega (arith, ltb-true m n h))
-    lower (negsuc m) n h least = refl
-
--- and by the greatest common divisor.
-pub tested_by_gcd : (num den : ℤ) {top bottom divisor : ℕ}
-    → SFits w32 num
-    → SFits w32 den
-    → lt_z (to_z w32 (of_z w32 den)) (pos 1) ≡ false
-    → top ≡ nat_abs (to_z w32 (of_z w32 num))
-    → top ≤ 2147483647
-    → bottom ≡ nat_abs (to_z w32 (of_z w32 den))
-    → divisor ≡ gcd top bottom
-    → eqb divisor 1 ≡ is_fraction num den
-unfolding limit
-tested_by_gcd num den fits fits' least top_is above bottom_is is =
-    let size = top_is ∙ ap nat_abs (to_z-of_z {w = w32} fits) in
-    ap (λ g. eqb g 1) (is ∙ ap₂ gcd size (bottom_is ∙ ap nat_abs (to_z-of_z {w = w32} fits')))
-    ∙ sym (fraction_by_gcd num den (rw (to_z-of_z {w = w32} fits') at least) fits' (omega arith))

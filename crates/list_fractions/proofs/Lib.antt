@@ -1,4 +1,3 @@
 pub mod Fractions
 pub mod Places
-mod Tested
 pub mod Unique

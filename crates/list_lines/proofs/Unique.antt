@@ -1,14 +1,11 @@
 -- Each contract leaves one answer.
 -- Main results: `listed_unique`, and a law NAME_unique for each public function NAME. Assume nothing.
-use mathlib.Core.Path.{◌≡◌, sym, ap, ap₂, ◌∙◌}
+use mathlib.Core.Path.{◌≡◌, sym, ap, ◌∙◌}
 use mathlib.Core.List.{List}
 use Prim.Native.Nat.{ℕ}
-use native.Mathlib.Omega.{arith}
+use Rattle.std.specs.Prelude.{Result, Ok, Err}
 use Rattle.unique.specs.Twice.{Twice}
-use Rattle.answer.specs.Refusals.{Refusal}
-use Rattle.rules_problem.specs.Problem.{refuse}
-use Rattle.list_lines.specs.declared.Reached.{Reached}
-use Rattle.list_lines.specs.declared.Reached.TheVariants.{At, Refused}
+use Rattle.answer.specs.declared.Refusal.{Refusal}
 use Rattle.list_lines.specs.Contract.{reached_of, listed_by}
 use Rattle.list_lines.proofs.list_row_at.Kinds as row-kinds
 use Rattle.list_lines.proofs.list_row_at.Reads as row_reads
@@ -16,17 +13,15 @@ use Rattle.list_lines.proofs.first_line_at.Kinds as first-kinds
 use Rattle.list_lines.proofs.first_line_at.Reads as first_reads
 
 -- Different answers are different in the rule's terms.
-reached_one_to_one : (r s : Reached) → reached_of r ≡ reached_of s → r ≡ s
-unfolding reached_of refuse
-reached_one_to_one (At p) (At q) e = ap At (cc)
-reached_one_to_one (At p) (Refused k q) e = let no_way : ◌≡◌ {A = ℕ} 0 1 = cc in absurd (omega arith)
-reached_one_to_one (Refused k p) (At q) e = let no_way : ◌≡◌ {A = ℕ} 0 1 = cc in absurd (omega arith)
-reached_one_to_one (Refused k p) (Refused l q) e =
-    let same : ◌≡◌ {A = Refusal} (record { number = k; place = p }) (record { number = l; place = q }) = cc in
-    ap₂ Refused (ap (λ f. f.number) same) (ap (λ f. f.place) same)
+reached_one_to_one : (r s : Result ℕ Refusal) → reached_of r ≡ reached_of s → r ≡ s
+unfolding reached_of
+reached_one_to_one (Ok p) (Ok q) e = ap Ok (cc)
+reached_one_to_one (Ok p) (Err k) e = cc
+reached_one_to_one (Err k) (Ok q) e = cc
+reached_one_to_one (Err k) (Err l) e = ap Err (cc)
 
 -- What is left of a call tells its answer and the buffer.
-pub listed_unique : (r s : Reached) (after after' : List ℕ) → listed_by r after ≡ listed_by s after' → (r ≡ s) × (after ≡ after')
+pub listed_unique : (r s : Result ℕ Refusal) (after after' : List ℕ) → listed_by r after ≡ listed_by s after' → (r ≡ s) × (after ≡ after')
 unfolding listed_by
 listed_unique r s after after' same = (reached_one_to_one r s (ap (λ l. l.reached) same), ap (λ l. l.buffer) same)
 

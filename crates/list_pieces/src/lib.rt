@@ -7,14 +7,12 @@ ghost use Rattle.list_text.specs.Wrote.{Fits, Wrote};
 ghost use Rattle.list_pieces.specs.Contract.{over_text, piece_of, PieceFits, pieces_of, PiecesFit};
 
 use list_decimal::put_decimal;
-use list_text::put_byte;
-use rules_problem::{COLUMNS, TERMS};
+use list_text::{put_byte, put_text};
+use rules_problem::{COLUMNS, CONSTANT};
 use whole_size::size;
 
-// 01, The run: the column of the constant.
-const CONSTANT: usize = TERMS;
-
 // "a sign"
+#[tactic(auto, unfolding(rules_listing::specs::Line::sign_of, rules_listing::specs::Text::ascii))]
 fn sign(num: i32) -> u8
     ensures { result ∷ [] ≡ sign_of num }
 {
@@ -22,6 +20,7 @@ fn sign(num: i32) -> u8
 }
 
 // "the fraction (no denominator if 1)", without its sign
+#[tactic(auto, unfolding(crate::specs::Contract::over_text, rules_listing::specs::Text::ascii))]
 fn put_over(buf: &mut [u8], at: usize, top: u64, bottom: u64) -> usize
     requires { Fits (over_text top bottom) at buf.old }
     ensures { Wrote (over_text top bottom) at buf.old buf.new result }
@@ -35,6 +34,7 @@ fn put_over(buf: &mut [u8], at: usize, top: u64, bottom: u64) -> usize
 }
 
 // "`*t` with the term number; the constant comes last without `*t`"
+#[tactic(auto, using(list_text::proofs::Placing::wrote_nothing), unfolding(rules_listing::specs::Line::term_text, rules_listing::specs::Text::ascii))]
 fn put_term(buf: &mut [u8], at: usize, c: usize) -> usize
     requires { Fits (term_text c) at buf.old }
     ensures { Wrote (term_text c) at buf.old buf.new result }
@@ -42,9 +42,8 @@ fn put_term(buf: &mut [u8], at: usize, c: usize) -> usize
     if c == CONSTANT {
         return at;
     }
-    let star = put_byte(buf, at, b'*');
-    let letter = put_byte(buf, star, b't');
-    put_decimal(buf, letter, c as u64)
+    let mark = put_text(buf, at, b"*t");
+    put_decimal(buf, mark, c as u64)
 }
 
 // "A piece stands for a nonzero column": a blank, a sign, the fraction and the term.
@@ -67,12 +66,10 @@ pub fn put_pieces(buf: &mut [u8], at: usize, nums: &[i32], dens: &[i32], t: usiz
     requires { PiecesFit t nums.now dens.now at buf.old }
     ensures { Wrote (pieces_of nums.now dens.now t) at buf.old buf.new result }
 {
-    let base = COLUMNS * t;
+    let first = COLUMNS * t;
     let mut next = at;
-    let mut c = 0;
-    while c < COLUMNS {
-        next = put_piece(buf, next, c, nums[base + c], dens[base + c]);
-        c += 1;
+    for c in 0..COLUMNS {
+        next = put_piece(buf, next, c, nums[first + c], dens[first + c]);
     }
     next
 }

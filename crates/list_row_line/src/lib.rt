@@ -23,6 +23,7 @@ fn put_or_zero(buf: &mut [u8], at: usize, nums: &[i32], dens: &[i32], t: usize) 
 }
 
 // The line of row t at a place: "its number, a colon, then a blank before each piece". Answers the place behind it.
+#[tactic(auto, using(crate::proofs::Lines::number_short, crate::proofs::Lines::pieces_short))]
 pub fn put_row(buf: &mut [u8], at: usize, nums: &[i32], dens: &[i32], t: usize) -> usize
     requires { RowFits t nums.now dens.now at buf.old }
     ensures { Wrote (held_line nums.now dens.now t) at buf.old buf.new result }

@@ -1,13 +1,13 @@
 -- Texts put into a buffer one after the other.
--- Main results: `take_put_at`, `put_at_then`, `wrote_nothing`, `wrote_byte`, `wrote_then`, `wrote_length`, `fits_then`, `wrote_both`, `begun_all`. Assume nothing.
+-- Main results: `take_put_at`, `put_at_then`, `wrote_nothing`, `wrote_byte`, `wrote_then`, `wrote_length`, `fits_then`, `wrote_both`. Assume nothing.
 use mathlib.Core.Path.{◌≡◌, refl, sym, ap, ◌∙◌}
 use mathlib.Core.List.{List, [], ◌∷◌, ◌++◌, append-nil, append_assoc}
 use Prim.Native.Nat.{ℕ, suc, ◌+◌, ◌≤◌, ◌<◌}
-use native.Mathlib.Nat.{add-zero, add-suc, add_assoc}
+use native.Mathlib.Nat.{add-zero, add_assoc}
 use native.Mathlib.Numerals.{add-one}
 use native.Mathlib.Omega.{arith}
-use lib.ListN.{length, take, drop, get_or, set, take-append-drop, length-append, length-drop, length-set}
-use lib.Seq.{length-take-le, take_at, take-suc, take_all, drop_at, drop-drop, set_split, append_snoc}
+use lib.ListN.{length, take, drop, set, take-append-drop, length-append, length-drop}
+use lib.Seq.{length-take-le, take_at, drop_at, drop-drop, set_split, append_snoc}
 use Rattle.rules_listing.specs.Listing.{put_at}
 use Rattle.list_text.specs.Wrote.{Fits, Wrote}
 
@@ -89,28 +89,3 @@ fits_then {a} {b} fits wrote =
 -- A text of which both parts are written is written.
 pub wrote_both : {a b before between after : List ℕ} {place middle next : ℕ} → Fits (a ++ b) place before → Wrote a place before between middle → Wrote b middle between after next → Wrote (a ++ b) place before after next
 wrote_both fits = wrote_then (omega (arith, fits.room))
-
--- The first i bytes of a text are written, and the buffer is as long as it was:
-pub record Begun (text : List ℕ) (place i : ℕ) (before after : List ℕ) : Type 0 where
-  pub most : i ≤ length text
-  pub size : length after ≡ length before
-  pub wrote : Wrote (take i text) place before after (place + i)
-
--- none of them,
-pub begun_none : (text : List ℕ) (place : ℕ) (buffer : List ℕ) → Begun text place 0 buffer buffer
-begun_none text place buffer = record { most = omega arith; size = refl; wrote = rw add-zero (wrote_nothing place buffer) }
-
--- one more,
-pub begun_more : {text before after : List ℕ} {place i : ℕ} → Fits text place before → Begun text place i before after → i < length text → Begun text place (i + 1) before (set after (place + i) (get_or text i 0))
-begun_more {text} {before} {after} {place} {i} fits begun more =
-    let within : place + i < length after = omega (arith, fits.room, begun.size) in
-    let first : place ≤ length before = omega (arith, fits.room) in
-    record {
-      most = omega arith;
-      size = simp length-set begun.size;
-      wrote = rw (add-one, take-suc text i 0 more, add-suc, ← add-one) (wrote_then first begun.wrote (wrote_byte (place + i) (get_or text i 0) after within));
-    }
-
--- all.
-pub begun_all : {text before after : List ℕ} {place i : ℕ} → Begun text place i before after → length text ≤ i → Wrote text place before after (place + i)
-begun_all {text} {before} {after} {place} {i} begun all = rw (take_all i text all) at begun.wrote

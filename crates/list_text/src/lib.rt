@@ -5,6 +5,7 @@ ghost use Rattle.std.specs.Prelude.{[], ◌∷◌};
 ghost use Rattle.list_text.specs.Wrote.{Fits, Wrote};
 
 // Writes one byte at a place, and says where the next one goes.
+#[tactic(auto, unfolding(rules_listing::specs::Listing::put_at))]
 pub fn put_byte(buf: &mut [u8], at: usize, b: u8) -> usize
     requires { Fits (b ∷ []) at buf.old }
     ensures { Wrote (b ∷ []) at buf.old buf.new result }
@@ -14,15 +15,12 @@ pub fn put_byte(buf: &mut [u8], at: usize, b: u8) -> usize
 }
 
 // Writes a text at a place, and says where the next one goes.
+#[tactic(auto, unfolding(rules_listing::specs::Listing::put_at))]
 pub fn put_text(buf: &mut [u8], at: usize, text: &[u8]) -> usize
     requires { Fits text.now at buf.old }
     ensures { Wrote text.now at buf.old buf.new result }
 {
-    let mut i = 0;
-    while i < text.len() {
-        let b = text[i];
-        buf[at + i] = b;
-        i += 1;
-    }
-    at + i
+    let end = at + text.len();
+    buf[at..end].copy_from_slice(text);
+    end
 }

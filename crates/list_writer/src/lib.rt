@@ -1,11 +1,10 @@
 // The line writer: it carries the caller's buffer and the place reached, from line to line.
 #![tactic(auto)]
 
-ghost use Rattle.std.specs.Prelude.{◌≡◌};
-ghost use Rattle.list_writer.specs.Contract.{place_after, RowWritten, LineWritten};
+ghost use Rattle.list_writer.specs.Contract.{RowWritten, LineWritten};
 
-use answer::Answer;
-use list_lines::{Reached, first_line_at, list_row_at};
+use answer::{Answer, Refusal};
+use list_lines::{first_line_at, list_row_at};
 
 // 01, The listing: "The line writer carries the caller's buffer and the place reached."
 #[derive(Drop)]
@@ -14,35 +13,22 @@ pub struct Writer<'a> {
     pub at: usize,
 }
 
-// The place reached after a line: the new one, or on refusal the old one.
-fn place_after(reached: Reached, at: usize) -> usize
-    ensures { result ≡ place_after reached at }
-{
-    match reached {
-        Reached::At(next) => next,
-        Reached::Refused {
-            number: _,
-            place: _,
-        } => at,
-    }
-}
-
 // Lists row t at the place reached, and moves on: "the new place reached, or on refusal the number and the old place".
-pub fn list_row<'s, 'a>(w: &'s mut Writer<'a>, nums: &[i32], dens: &[i32], t: usize) -> Reached
+#[tactic(auto, unfolding(crate::specs::Contract::place_after))]
+pub fn list_row(w: &mut Writer, nums: &[i32], dens: &[i32], t: usize) -> Result<usize, Refusal>
     ensures { RowWritten nums.now dens.now t w.old w.new result }
 {
-    let at = w.at;
-    let reached = list_row_at(&mut *w.buf, at, nums, dens, t);
-    w.at = place_after(reached, at);
-    reached
+    let listed = list_row_at(w.buf, w.at, nums, dens, t);
+    w.at = listed.unwrap_or(w.at);
+    listed
 }
 
 // Writes the first line of an answer at the place reached, and moves on.
-pub fn first_line<'s, 'a>(w: &'s mut Writer<'a>, answer: Answer) -> Reached
+#[tactic(auto, unfolding(crate::specs::Contract::place_after))]
+pub fn first_line(w: &mut Writer, answer: Answer) -> Result<usize, Refusal>
     ensures { LineWritten answer w.old w.new result }
 {
-    let at = w.at;
-    let reached = first_line_at(&mut *w.buf, at, answer);
-    w.at = place_after(reached, at);
-    reached
+    let written = first_line_at(w.buf, w.at, answer);
+    w.at = written.unwrap_or(w.at);
+    written
 }

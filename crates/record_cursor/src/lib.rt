@@ -11,13 +11,6 @@ pub struct Cursor {
     pub at: usize,
 }
 
-// What taking a field answers: its value and the cursor after it, or that fewer bits are left.
-#[derive(Drop)]
-enum Field {
-    Got { value: u32, next: Cursor },
-    Ended,
-}
-
 // A field that is there, with the cursor after it.
 #[derive(Drop)]
 pub struct Piece {
@@ -29,14 +22,11 @@ pub struct Piece {
 fn byte_at(bytes: &[u8], index: usize) -> u32
     ensures { ByteRead bytes.now index result }
 {
-    if index < bytes.len() {
-        bytes[index] as u32
-    } else {
-        0
-    }
+    bytes.get(index).map_or(0, |byte| u32::from(*byte))
 }
 
 // The 24 bits from a byte on.
+#[tactic(auto, using(crate::proofs::Bits::three_bytes))]
 fn window(bytes: &[u8], first: usize) -> u32
     requires { first + 2 < 2 ^ 64 }
     ensures { result ≡ number_at bytes.now first 3 }
@@ -49,21 +39,22 @@ fn window(bytes: &[u8], first: usize) -> u32
 
 impl Cursor {
     // The field of `width` bits from the cursor. A field lies in three bytes at most, so they are taken together.
-    fn take(self, bytes: &[u8], width: u32) -> Field
+    #[tactic(auto, using(crate::proofs::Bits::power_made), unfolding(crate::specs::Taken::taken_at))]
+    fn take(self, bytes: &[u8], width: u32) -> Option<Piece>
         requires { Takeable self.at width }
         ensures { result ≡ taken_at bytes.now self.at width }
     {
         let at = self.at;
         let end = at + width as usize;
         if bytes.len() < end / 8 + (end % 8 + 7) / 8 {
-            return Field::Ended;
+            return None;
         }
         let after = 24 - ((at % 8) as u32 + width);
         let value = (window(bytes, at / 8) >> after) % (1 << width);
-        Field::Got {
-            value: value,
+        Some(Piece {
+            value,
             next: Cursor { at: end },
-        }
+        })
     }
 
     // A field whose bits are there. The cursor after it is the same either way, so that the compiler knows where it stands.
@@ -71,17 +62,13 @@ impl Cursor {
         requires { Readable bytes.now self.at width }
         ensures { PieceRead bytes.now self.at width result }
     {
-        let past = self.at + width as usize;
-        match self.take(bytes, width) {
-            Field::Got { value, next } => Piece {
-                value: value,
-                next: next,
+        let past = Piece {
+            value: 0,
+            next: Cursor {
+                at: self.at + width as usize,
             },
-            Field::Ended => Piece {
-                value: 0,
-                next: Cursor { at: past },
-            },
-        }
+        };
+        self.take(bytes, width).unwrap_or(past)
     }
 
     // A field of 64 bits that are at hand as one number: the cursor counts from the highest of them.

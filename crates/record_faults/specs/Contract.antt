@@ -1,6 +1,6 @@
 -- What looking for faults asks for, and what it ensures.
 -- Main definitions: `RecordsThere`, `SidesThere`, `PairsThere`, `AllSound`, `First`. Assume nothing.
-use Rattle.std.specs.Prelude.{◌≡◌, Bool, true, false, List, ℕ, ◌+◌, ◌*◌, ◌<◌, ◌≤◌, length}
+use Rattle.std.specs.Prelude.{◌≡◌, Bool, true, false, List, ℕ, ◌+◌, ◌*◌, ◌<◌, ◌≤◌, length, Option, MatchOption}
 
 -- The records of n terms lie within the bytes.
 pub record RecordsThere (bytes : List ℕ) (n : ℕ) : Type 0 where
@@ -18,13 +18,17 @@ pub record PairsThere (bytes : List ℕ) (n m : ℕ) : Type 0 where
   pub few_pairs : m ≤ 64
   pub there : 4 + 8 * n + 2 * m ≤ length bytes
 
--- Every index from `from` up to r is sound.
-pub record AllSound (from end : ℕ) (sound : ℕ → Bool) (r : ℕ) : Type 0 where
-  pub least : from ≤ r
-  pub most : r ≤ end
-  pub each : (k : ℕ) → from ≤ k → k < r → sound k ≡ true
+-- Every index from `from` up to `end` is sound.
+pub record AllSound (from end : ℕ) (sound : ℕ → Bool) : Type 0 where
+  pub each : (k : ℕ) → from ≤ k → k < end → sound k ≡ true
 
--- The first index from `from` on that is not sound, or `end`.
-pub record First (from end : ℕ) (sound : ℕ → Bool) (r : ℕ) : Type 0 where
-  pub passed : AllSound from end sound r
-  pub there : r < end → sound r ≡ false
+-- The index t, from `from` up to `end`, is the lowest that is not sound.
+pub record Lowest (from end : ℕ) (sound : ℕ → Bool) (t : ℕ) : Type 0 where
+  pub least : from ≤ t
+  pub most : t < end
+  pub passed : AllSound from t sound
+  pub there : sound t ≡ false
+
+-- The lowest index from `from` up to `end` that is not sound, or none, where all are.
+abbrev pub First : (from end : ℕ) (sound : ℕ → Bool) → Option ℕ → Type 0
+First from end sound r = MatchOption r (AllSound from end sound) (Lowest from end sound)

@@ -25,23 +25,18 @@ fn eight_bytes(bytes: &[u8], first: usize) -> u64
     requires { RecordThere bytes.now first }
     ensures { result ≡ number_at bytes.now first 8 }
 {
-    let mut number: u64 = 0;
-    let mut count: usize = 0;
-    while count < 8 {
-        number = number * 256 + bytes[first + count] as u64;
-        count += 1;
-    }
-    number
+    let eight: [u8; 8] = bytes[first..first + 8].try_into().unwrap();
+    u64::from_be_bytes(eight)
 }
 
 // The record from byte `first` on: its eight bytes are read once, and the cursor cuts the fields from them.
+#[tactic(auto, using(crate::proofs::Chain::fields_cut))]
 pub fn read_fields(bytes: &[u8], first: usize) -> Fields
     requires { RecordThere bytes.now first }
     ensures { FieldsRead bytes.now first result }
 {
     let bits = eight_bytes(bytes, first);
-    let start = Cursor { at: 0 };
-    let kind = start.cut(bits, 4);
+    let kind = Cursor { at: 0 }.cut(bits, 4);
     let symbol = kind.next.cut(bits, 8);
     let input1 = symbol.next.cut(bits, 8);
     let input2 = input1.next.cut(bits, 8);

@@ -1,5 +1,6 @@
 -- What is known where a byte string holds a term or a pair.
 -- Main results: `record_held`, `term_answered`, `pair_within`, `pair_held`. Assume nothing.
+use Rattle.std.specs.Prelude.{Some}
 use mathlib.Core.Path.{◌≡◌, sym, ap, ◌∙◌}
 use mathlib.Core.List.{List}
 use Prim.Native.Nat.{ℕ, ◌+◌, ◌-◌, ◌*◌, ◌≤◌}
@@ -15,7 +16,6 @@ use Rattle.rules_problem.specs.Pairs.{pair_there}
 use Rattle.rules_problem.proofs.Holding.{holding, sides_made, term_there, pair_there_lem}
 use Rattle.record_term.specs.Contract.{SoundRecord}
 use Rattle.record_term.specs.Terms.{term_read, Faultless}
-use Rattle.record_term.specs.declared.TermRead.TheVariants.{Sound}
 use Rattle.record_reader.proofs.Decoding.{term_as, term_as_lem}
 use Rattle.record_items.specs.Held.{TermHeld, PairHeld}
 
@@ -31,7 +31,7 @@ module _ {bytes : List ℕ} {t : ℕ} (h : TermHeld bytes t) where
       }
 
 -- what reading it answers is the rule's term.
-pub term_answered : (bytes : List ℕ) (t : ℕ) {r : Term} → term_read bytes t ≡ Sound r → made r ≡ term_at bytes t
+pub term_answered : (bytes : List ℕ) (t : ℕ) {r : Term} → term_read bytes t ≡ Some r → made r ≡ term_at bytes t
 unfolding term_as
 term_answered bytes t e = sym (term_as_lem bytes t ∙ ap (term_as t) e)
 

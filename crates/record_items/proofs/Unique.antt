@@ -2,7 +2,7 @@
 -- Main results: `term_at_unique`, `pair_at_unique`. Assume nothing.
 use mathlib.Core.Path.{◌≡◌, sym, ◌∙◌}
 use Rattle.unique.specs.Twice.{Twice}
-use Rattle.answer.specs.Refusals.{Refusal}
+use Rattle.answer.specs.declared.Refusal.{Refusal}
 use Rattle.fraction.specs.Made.{Made, made}
 use Rattle.rules_problem.specs.declared.Term.{Term}
 use Rattle.rules_problem.specs.Problem.{Pair}

@@ -27,6 +27,7 @@ pub fn term_at(bytes: &[u8], t: usize) -> Term
 }
 
 // The sides of pair `k`, from 1, of a problem of `n` terms that was read.
+#[tactic(auto, using(crate::proofs::Holding::pair_within, crate::proofs::Holding::pair_held, record_cursor::proofs::There::second_side), unfolding(crate::specs::Held::as_pair))]
 pub fn pair_at(bytes: &[u8], n: usize, k: usize) -> Sides
     requires { PairHeld bytes.now n k }
     ensures { made (as_pair result) ≡ pair_there bytes.now n k }

@@ -1,15 +1,16 @@
 // The reader: from a byte string to the problem that it holds, or to the refusal that it gets.
 #![tactic(auto)]
 
-ghost use Rattle.std.specs.Prelude.{◌≡◌, ◌≤◌, length};
+ghost use Rattle.std.specs.Prelude.{◌≡◌, ◌≤◌, length, Bool, true, false, MatchResult};
 ghost use Rattle.record_reader.specs.Contract.{HeaderRead, Framed};
 ghost use Rattle.record_reader.specs.Reads.{read_of};
 
-use answer::{COUNT, LENGTH, PAIR, SHORT, TERM};
+use answer::{Reason, Refusal};
 use record_cursor::Cursor;
 use rules_problem::TERMS;
 
-// The counts of terms and assumptions, and the sides of the goal.
+// The counts of terms and assumptions, and the sides of the goal: what reading a sound problem answers. Its terms and pairs
+// stay in the bytes, where `record_items::term_at` and `record_items::pair_at` read them.
 #[derive(Drop)]
 pub struct Header {
     pub n: usize,
@@ -18,21 +19,13 @@ pub struct Header {
     pub right: usize,
 }
 
-// What reading a byte string answers. A sound problem is answered by its header: an enum holds no array, so its terms and
-// pairs stay in the bytes, where `record_items::term_at` and `record_items::pair_at` read them.
-#[derive(Drop)]
-pub enum Read {
-    Sound(Header),
-    Refused { number: u8, place: usize },
-}
-
 // The four bytes of the header, read one after the other.
+#[tactic(auto, using(crate::proofs::Chain::header_read))]
 fn read_header(bytes: &[u8]) -> Header
     requires { 4 ≤ length bytes.now }
     ensures { HeaderRead bytes.now result }
 {
-    let start = Cursor { at: 0 };
-    let n = start.read(bytes, 8);
+    let n = Cursor { at: 0 }.read(bytes, 8);
     let m = n.next.read(bytes, 8);
     let left = m.next.read(bytes, 8);
     let right = left.next.read(bytes, 8);
@@ -44,57 +37,52 @@ fn read_header(bytes: &[u8]) -> Header
     }
 }
 
-fn refused(number: u8, place: usize) -> Read
-    ensures { result ≡ Read.Refused number place }
+// A test of the table, at place 0.
+fn need(passed: bool, reason: Reason) -> Result<(), Refusal>
+    ensures { MatchResult result (λ _. passed ≡ true) (λ why. (passed ≡ false) × (why ≡ record { reason = reason; place = 0 })) }
 {
-    Read::Refused {
-        number: number,
-        place: place,
+    if passed {
+        Ok(())
+    } else {
+        Err(Refusal { reason, place: 0 })
     }
 }
 
 // Tests 5 and 6, of a byte string whose length is that of its counts.
-fn judge(bytes: &[u8], header: Header) -> Read
+#[tactic(auto, using(crate::proofs::Decoding::answers_goal, crate::proofs::Decoding::answers_pair, crate::proofs::Decoding::answers_sound))]
+fn judge(bytes: &[u8], header: Header) -> Result<Header, Refusal>
     requires { Framed bytes.now header }
     ensures { result ≡ read_of bytes.now }
 {
-    let n = header.n;
-    let m = header.m;
-    let faulty = record_faults::first_faulty(bytes, n);
-    if faulty < n {
-        return refused(TERM, faulty);
+    if let Some(place) = record_faults::first_faulty(bytes, header.n) {
+        return Err(Refusal {
+            reason: Reason::Term,
+            place,
+        });
     }
-    if !record_faults::both_below(bytes, n, 16) {
-        return refused(PAIR, 0);
+    need(record_faults::both_below(bytes, header.n, 16), Reason::Pair)?;
+    if let Some(place) = record_faults::first_beyond(bytes, header.n, header.m) {
+        return Err(Refusal {
+            reason: Reason::Pair,
+            place,
+        });
     }
-    let beyond = record_faults::first_beyond(bytes, n, m);
-    if beyond <= m {
-        return refused(PAIR, beyond);
-    }
-    Read::Sound(header)
+    Ok(header)
 }
 
 // Tests 2 to 6 in their order.
-pub fn read_problem(bytes: &[u8]) -> Read
+#[tactic(auto, using(crate::proofs::Decoding::answers_short, crate::proofs::Decoding::answers_no_term, crate::proofs::Decoding::answers_many_terms, crate::proofs::Decoding::answers_many_pairs, crate::proofs::Decoding::answers_length))]
+pub fn read_problem(bytes: &[u8]) -> Result<Header, Refusal>
     ensures { result ≡ read_of bytes.now }
 {
-    if bytes.len() < 4 {
-        return refused(SHORT, 0);
-    }
+    need(4 <= bytes.len(), Reason::Short)?;
     let header = read_header(bytes);
-    let n = header.n;
-    let m = header.m;
-    if n < 1 {
-        return refused(COUNT, 0);
-    }
-    if TERMS < n {
-        return refused(COUNT, 0);
-    }
-    if TERMS < m {
-        return refused(COUNT, 0);
-    }
-    if bytes.len() != 4 + 8 * n + 2 * m {
-        return refused(LENGTH, 0);
-    }
+    need(1 <= header.n, Reason::Count)?;
+    need(header.n <= TERMS, Reason::Count)?;
+    need(header.m <= TERMS, Reason::Count)?;
+    need(
+        bytes.len() == 4 + 8 * header.n + 2 * header.m,
+        Reason::Length,
+    )?;
     judge(bytes, header)
 }

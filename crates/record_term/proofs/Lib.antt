@@ -1,3 +1,4 @@
 pub mod Judging
 pub mod Mantissa
 pub mod Unique
+pub mod Uses

@@ -1,2 +1,3 @@
 pub mod Contract
 pub mod Terms
+pub mod Uses

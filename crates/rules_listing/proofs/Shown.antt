@@ -9,7 +9,7 @@ use lib.IntN.{ℤ, pos}
 use Rattle.whole.specs.Gcd.{gcd, euclid}
 use Rattle.whole.specs.Signed.{signed}
 use Rattle.answer.specs.declared.Answer.TheVariants.{Entailed}
-use Rattle.answer.specs.Refusals.{SPACE, ROW}
+use Rattle.answer.specs.declared.Reason.TheVariants as reason
 use Rattle.answer.specs.Said.{said}
 use Rattle.fraction.specs.Exact.{whole, zero_ℚ, frac, eq_ℤ, eq_ℚ}
 use Rattle.fraction.specs.Limits.{limit}
@@ -22,7 +22,7 @@ use Rattle.rules_listing.specs.Listing.{is_fraction, all_fractions, places_of, h
 
 -- listing one row, with every rule open
 computed_row : (numerators denominators : List ℤ) → (t place : ℕ) → (buffer : List ℕ) → Listed
-unfolding gcd euclid signed SPACE ROW whole zero_ℚ frac eq_ℤ eq_ℚ limit refuse column ascii digits decimal sign_of fraction_text term_text piece pieces or_zero row_line is_fraction all_fractions places_of held_row put_at list_row
+unfolding gcd euclid signed whole zero_ℚ frac eq_ℤ eq_ℚ limit refuse column ascii digits decimal sign_of fraction_text term_text piece pieces or_zero row_line is_fraction all_fractions places_of held_row put_at list_row
 computed_row = list_row
 
 -- lists of 4,160 places that hold 0 and 1, and a buffer of zeros
@@ -36,7 +36,7 @@ bytes : ℕ → List ℕ
 bytes size = replicate size 0
 
 -- "With fewer than 2,048 bytes after the place reached (..) it is refused with 1": with 2,047,
-room_too_short : (computed_row zeros ones 0 1 (bytes 2048)).reached ≡ refuse SPACE 1
+room_too_short : (computed_row zeros ones 0 1 (bytes 2048)).reached ≡ refuse reason.Space 1
 unfolding computed_row zeros ones bytes
 room_too_short = refl
 
@@ -50,12 +50,12 @@ row_63 : (computed_row zeros ones 63 1 (bytes 2049)).reached ≡ made 7
 unfolding computed_row zeros ones bytes
 row_63 = refl
 
-row_64 : computed_row zeros ones 64 1 (bytes 2049) ≡ record { reached = refuse ROW 1; buffer = bytes 2049 }
+row_64 : computed_row zeros ones 64 1 (bytes 2049) ≡ record { reached = refuse reason.Row 1; buffer = bytes 2049 }
 unfolding computed_row zeros ones bytes
 row_64 = refl
 
 -- "any place in that row that is not a fraction in lowest terms": 0/2 in column 3 of row 1 is none. Row 0 beside it is listed.
-not_lowest : computed_row zeros (set ones 68 (pos 2)) 1 5 (bytes 2053) ≡ record { reached = refuse ROW 5; buffer = bytes 2053 }
+not_lowest : computed_row zeros (set ones 68 (pos 2)) 1 5 (bytes 2053) ≡ record { reached = refuse reason.Row 5; buffer = bytes 2053 }
 unfolding computed_row zeros ones bytes
 not_lowest = refl
 
@@ -64,7 +64,7 @@ unfolding computed_row zeros ones bytes
 row_beside = refl
 
 -- A first line without room is refused with 1 at place 0, also where the place reached is another; with 2,048 bytes it is written.
-first_too_short : list_first (Entailed 1) 7 (bytes 2054) ≡ record { reached = refuse SPACE 0; buffer = bytes 2054 }
+first_too_short : list_first (Entailed 1) 7 (bytes 2054) ≡ record { reached = refuse reason.Space 0; buffer = bytes 2054 }
 unfolding list_first bytes
 first_too_short = refl
 

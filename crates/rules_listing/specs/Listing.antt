@@ -3,8 +3,10 @@
 use Rattle.std.specs.Prelude.{Bool, true, ◌&&◌, cond, List, [], ◌∷◌, ◌++◌, ℕ, suc, ◌+◌, ◌*◌, length, take, drop, eqb, leb, ltb, ℤ, pos, nat_abs}
 use Rattle.std.specs.Int.Signed.{le_z}
 use Rattle.whole.specs.Gcd.{gcd}
+use Rattle.answer.specs.declared.Reason.{Reason}
 use Rattle.answer.specs.declared.Answer.{Answer}
-use Rattle.answer.specs.Refusals.{Refusal, SPACE, ROW}
+use Rattle.answer.specs.declared.Refusal.{Refusal}
+use Rattle.answer.specs.declared.Reason.TheVariants as reason
 use Rattle.fraction.specs.Exact.{frac}
 use Rattle.fraction.specs.Limits.{limit}
 use Rattle.fraction.specs.Made.{Made, made}
@@ -65,8 +67,8 @@ abbrev pub written_at : (place : ℕ) → (text buffer : List ℕ) → Listed
 written_at place text buffer = record { reached = made (place + length text); buffer = put_at place text buffer }
 
 -- and a refusal, which "leaves every lent list and buffer unchanged"
-abbrev pub refused_at : (number place : ℕ) → (buffer : List ℕ) → Listed
-refused_at number place buffer = record { reached = refuse number place; buffer = buffer }
+abbrev pub refused_at : (why : Reason) (place : ℕ) → (buffer : List ℕ) → Listed
+refused_at why place buffer = record { reached = refuse why place; buffer = buffer }
 
 -- 01, The listing: the bytes that have to follow the place reached, room for every line
 abbrev pub ROOM : ℕ
@@ -79,11 +81,11 @@ list_row numerators denominators t place buffer =
     cond (leb (place + ROOM) (length buffer) && leb PLACES (length numerators) && leb PLACES (length denominators))
     (cond (ltb t TERMS && all_fractions (places_of t numerators) (places_of t denominators))
     (written_at place (held_line numerators denominators t) buffer)
-    (refused_at ROW place buffer))
-    (refused_at SPACE place buffer)
+    (refused_at reason.Row place buffer))
+    (refused_at reason.Space place buffer)
 
 -- An answer's first line is refused as the line of a row is where there is no room. 01, What comes back: the place of refusal 1 is "0; the old
 -- place when listing a row"; this is no row.
 unfoldable pub list_first : Answer → (place : ℕ) → (buffer : List ℕ) → Listed
 list_first answer place buffer =
-    cond (leb (place + ROOM) (length buffer)) (written_at place (first_line answer) buffer) (refused_at SPACE 0 buffer)
+    cond (leb (place + ROOM) (length buffer)) (written_at place (first_line answer) buffer) (refused_at reason.Space 0 buffer)

@@ -3,7 +3,7 @@
 use Rattle.std.specs.Prelude.{Bool, true, ◌&&◌, cond, List, [], ◌++◌, ℕ, zero, suc, ◌+◌, ◌*◌, length, leb, ℤ}
 use Rattle.answer.specs.declared.Answer.{Answer}
 use Rattle.answer.specs.declared.Answer.TheVariants.{Entailed, NotEntailed, Contradictory, Refused}
-use Rattle.answer.specs.Refusals.{SPACE, ROW}
+use Rattle.answer.specs.declared.Reason.TheVariants as reason
 use Rattle.rules_problem.specs.Bits.{field}
 use Rattle.rules_run.specs.Row.{TERMS, PLACES}
 use Rattle.rules_listing.specs.Line.{first_line}
@@ -14,7 +14,7 @@ unfoldable pub rows_listed : Answer → (n : ℕ) → ℕ
 rows_listed (Entailed solved) n = n
 rows_listed (NotEntailed solved) n = n
 rows_listed (Contradictory place) n = 0
-rows_listed (Refused number place) n = 0
+rows_listed (Refused why place) n = 0
 
 module _ (numerators denominators : List ℤ) where
   -- the lines of the first rows
@@ -42,8 +42,8 @@ module _ (numerators denominators : List ℤ) where
   unfoldable pub list_rows : Answer → (rows : ℕ) → (buffer : List ℕ) → Listed
   list_rows answer rows buffer =
       cond (leb (ROOM * (rows + 1)) (length buffer) && long_for rows)
-      (cond (leb rows TERMS && fraction_rows rows) (written_at 0 (page_text answer rows) buffer) (refused_at ROW 0 buffer))
-      (refused_at SPACE 0 buffer)
+      (cond (leb rows TERMS && fraction_rows rows) (written_at 0 (page_text answer rows) buffer) (refused_at reason.Row 0 buffer))
+      (refused_at reason.Space 0 buffer)
 
   -- The listing of a byte string that was decided so. 01, The problem record: "Header, 4 bytes: term count n (..)", the first 8 bits; a
   -- byte string without any has n = 0.

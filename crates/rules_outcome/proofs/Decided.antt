@@ -7,7 +7,7 @@ use Prim.Native.Nat.{ℕ}
 use borrow.Author.Tests.{le-leb, leb-true}
 use lib.Dec.{leb}
 use lib.ListN.{length}
-use Rattle.answer.specs.Refusals.{SPACE}
+use Rattle.answer.specs.declared.Reason.TheVariants as reason
 use Rattle.fraction.specs.Made.{made}
 use Rattle.rules_problem.specs.Problem.{Problem, decoded}
 use Rattle.rules_run.specs.Run.{Ranking, run}
@@ -36,7 +36,7 @@ after_answer (cut_short answer) lent = refl
 after_answer (finished answer table) lent = refl
 
 -- Lists of which one is too short stay, refused with SPACE.
-pub outcome_short : (ranking : Ranking) (bytes : List ℕ) (lent : Lent) → is_long lent ≡ false → outcome ranking bytes lent ≡ after (unread (record { number = SPACE; place = 0 })) lent
+pub outcome_short : (ranking : Ranking) (bytes : List ℕ) (lent : Lent) → is_long lent ≡ false → outcome ranking bytes lent ≡ after (unread (record { reason = reason.Space; place = 0 })) lent
 unfolding outcome
 outcome_short ranking bytes lent short = rw short
 

@@ -1,7 +1,7 @@
 -- What the rules answer to a byte string, with every rule open so that it computes.
 -- Main definition: `computed_answer`. Assumes nothing.
 use Rattle.std.specs.Prelude.{List, ℕ}
-use Rattle.answer.specs.Refusals.{SPACE, SHORT, COUNT, LENGTH, TERM, PAIR}
+use Rattle.answer.specs.declared.Reason.TheVariants as reason
 use Rattle.answer.specs.Said.{Said, said}
 use Rattle.rules_problem.specs.Bits.{bit_at, field, signed16}
 use Rattle.rules_problem.specs.Record.{fields_at, scaled, every, unless_faulty, kind_of}
@@ -31,11 +31,5 @@ unfolding
     bit_at
     field
     signed16
-    SPACE
-    SHORT
-    COUNT
-    LENGTH
-    TERM
-    PAIR
     said
 computed_answer bytes = said (answered (decision highest_number bytes))

@@ -3,7 +3,8 @@
 use Rattle.std.specs.Prelude.{Bool, ◌&&◌, cond, List, [], ◌∷◌, ℕ, zero, suc, ◌/◌, ◌%◌, ◌≤◌, length, leb, ℤ, pos}
 use Rattle.answer.specs.declared.Answer.{Answer}
 use Rattle.answer.specs.declared.Answer.TheVariants.{Refused}
-use Rattle.answer.specs.Refusals.{Refusal, SPACE}
+use Rattle.answer.specs.declared.Refusal.{Refusal}
+use Rattle.answer.specs.declared.Reason.TheVariants as reason
 use Rattle.fraction.specs.Made.{Made, made, stopped}
 use Rattle.rules_problem.specs.Problem.{Problem, decoded}
 use Rattle.rules_run.specs.Row.{Table, COLUMNS, PLACES, cell}
@@ -28,7 +29,7 @@ unfoldable pub decision : Ranking → (bytes : List ℕ) → Decision
 decision ranking bytes = after_reading ranking (decoded bytes)
 
 unfoldable pub answered : Decision → Answer
-answered (unread refusal) = Refused refusal.number refusal.place
+answered (unread refusal) = Refused refusal.reason refusal.place
 answered (cut_short answer) = answer
 answered (finished answer table) = answer
 
@@ -85,4 +86,4 @@ after (finished answer table) lent = record { answer = answer; left = rows table
 -- "Tests run in the order 1 to 7": "1 SPACE | a lent list is too short | 0 | unchanged", then the others
 unfoldable pub outcome : Ranking → (bytes : List ℕ) → Lent → Outcome
 outcome ranking bytes lent =
-    cond (is_long lent) (after (decision ranking bytes) lent) (after (unread (record { number = SPACE; place = 0 })) lent)
+    cond (is_long lent) (after (decision ranking bytes) lent) (after (unread (record { reason = reason.Space; place = 0 })) lent)

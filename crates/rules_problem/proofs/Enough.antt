@@ -10,7 +10,8 @@ use borrow.Author.Tests.{le-leb, leb-true, ne_eqb}
 use lib.Dec.{leb, eqb}
 use lib.ListN.{length, take}
 use lib.Seq.{length-take-le, take_all}
-use Rattle.answer.specs.Refusals.{Refusal, SHORT, COUNT, LENGTH}
+use Rattle.answer.specs.declared.Refusal.{Refusal}
+use Rattle.answer.specs.declared.Reason.TheVariants as reason
 use Rattle.fraction.specs.Made.{Made}
 use Rattle.rules_problem.specs.Bits.{bit_at, field}
 use Rattle.rules_problem.specs.Problem.{Problem, refuse, need, decoded}
@@ -28,13 +29,13 @@ too_long n m size long within =
     ne_eqb size (4 + 8 * n + 2 * m) (λ same. omega (arith, leb-true n 64 most, leb-true m 64 pairs))
 
 -- Tests 2 to 4, where the first is passed and the last is not.
-tests : (long counted whole : Bool) (next : Made Refusal Problem) → long ≡ true → (counted ≡ true → whole ≡ false) → need long SHORT (need counted COUNT (need whole LENGTH next)) ≡ need counted COUNT (refuse LENGTH 0)
+tests : (long counted whole : Bool) (next : Made Refusal Problem) → long ≡ true → (counted ≡ true → whole ≡ false) → need long reason.Short (need counted reason.Count (need whole reason.Length next)) ≡ need counted reason.Count (refuse reason.Length 0)
 unfolding need
 tests long true whole next passed fails = rw (passed, fails refl)
 tests long false whole next passed fails = rw passed
 
 -- A byte string of 645 bytes or more is refused with 3 or 4, as its two counts say.
-long_refused : (bytes : List ℕ) → 645 ≤ length bytes → decoded bytes ≡ need (counts (field bytes 0 8) (field bytes 8 8)) COUNT (refuse LENGTH 0)
+long_refused : (bytes : List ℕ) → 645 ≤ length bytes → decoded bytes ≡ need (counts (field bytes 0 8) (field bytes 8 8)) reason.Count (refuse reason.Length 0)
 unfolding decoded counts
 long_refused bytes long =
     tests (leb 4 (length bytes)) (counts (field bytes 0 8) (field bytes 8 8)) _ _ (le-leb 4 (length bytes) (omega arith)) (too_long (field bytes 0 8) (field bytes 8 8) (length bytes) long)
@@ -57,5 +58,5 @@ enough_bytes bytes = by (dec_lt (length bytes) 645)
         let size : 645 ≤ length (take 645 bytes) = omega (arith, length-take-le 645 bytes all) in
         let (n, m) = counts_kept bytes all in
         long_refused (take 645 bytes) size
-        ∙ ap₂ (λ n m. need (counts n m) COUNT (refuse LENGTH 0)) n m
+        ∙ ap₂ (λ n m. need (counts n m) reason.Count (refuse reason.Length 0)) n m
         ∙ sym (long_refused bytes all)

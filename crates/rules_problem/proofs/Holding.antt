@@ -10,7 +10,9 @@ use native.Mathlib.Nat.{zero-add}
 use borrow.Author.Tests.{ltb-true, leb-true, eqb-true}
 use lib.Dec.{ltb}
 use lib.ListN.{length, get_or}
-use Rattle.answer.specs.Refusals.{Refusal, SHORT, COUNT, LENGTH, PAIR}
+use Rattle.answer.specs.declared.Refusal.{Refusal}
+use Rattle.answer.specs.declared.Reason.{Reason}
+use Rattle.answer.specs.declared.Reason.TheVariants as reason
 use Rattle.fraction.specs.Made.{Made, made, stopped, ◌>>=◌, tab}
 use Rattle.fraction.proofs.Making.{stopped_not_made, tab_length, tab_member}
 use Rattle.rules_problem.specs.declared.Term.{Term}
@@ -32,7 +34,7 @@ never : {A : Type 0} → false ≡ true → A
 never e = let z : ◌≡◌ {A = ℕ} 0 1 = cc in absurd (omega arith)
 
 -- three tests that were passed
-passed : {A : Type 0} (a b c : Bool) (x y z : ℕ) (next : Made Refusal A) (p : A) → need a x (need b y (need c z next)) ≡ made p → (b ≡ true) × (c ≡ true) × (next ≡ made p)
+passed : {A : Type 0} (a b c : Bool) (x y z : Reason) (next : Made Refusal A) (p : A) → need a x (need b y (need c z next)) ≡ made p → (b ≡ true) × (c ≡ true) × (next ≡ made p)
 unfolding need refuse
 passed true true true x y z next p e = (refl, refl, e)
 passed true true false x y z next p e = absurd (stopped_not_made e)
@@ -59,7 +61,7 @@ each false b c e = never e
 pub holding : (bytes : List ℕ) (p : Problem) → decoded bytes ≡ made p → Holding bytes p
 unfolding decoded pair_there
 holding bytes p e =
-    let (counts, len, rest) = passed _ _ _ SHORT COUNT LENGTH _ p e in
+    let (counts, len, rest) = passed _ _ _ reason.Short reason.Count reason.Length _ p e in
     let (some_term, few_terms, few_pairs) = each _ _ _ counts in
     let (terms, goal, pairs) = parts _ _ _ p rest in
     record {
@@ -83,7 +85,7 @@ pub sides_made : (bytes : List ℕ) (n place at : ℕ) (pair : Pair) → pair_at
 unfolding pair_at refuse
 sides_made bytes n place at pair = go (ltb (field bytes at 8) n) (ltb (field bytes (at + 8) 8) n) refl refl
   where
-    go : (a b : Bool) → ltb (field bytes at 8) n ≡ a → ltb (field bytes (at + 8) 8) n ≡ b → cond (a && b) (made (record { left = field bytes at 8; right = field bytes (at + 8) 8 })) (refuse PAIR place) ≡ made pair → SidesOf bytes n at pair
+    go : (a b : Bool) → ltb (field bytes at 8) n ≡ a → ltb (field bytes (at + 8) 8) n ≡ b → cond (a && b) (made (record { left = field bytes at 8; right = field bytes (at + 8) 8 })) (refuse reason.Pair place) ≡ made pair → SidesOf bytes n at pair
     go true true l r e =
         let same : pair ≡ record { left = field bytes at 8; right = field bytes (at + 8) 8 } = cc in
         rw same (record { left = refl; right = refl; left_below = ltb-true _ _ l; right_below = ltb-true _ _ r })

@@ -9,7 +9,8 @@ use native.Mathlib.Omega.{arith}
 use borrow.Author.Tests.{ltb-true}
 use lib.Dec.{ltb, eqb}
 use lib.ListN.{get_or}
-use Rattle.answer.specs.Refusals.{Refusal, TERM}
+use Rattle.answer.specs.declared.Refusal.{Refusal}
+use Rattle.answer.specs.declared.Reason.TheVariants as reason
 use Rattle.fraction.specs.Made.{Made, made}
 use Rattle.fraction.proofs.Making.{stopped_not_made}
 use Rattle.rules_problem.specs.declared.Kind.{Kind}
@@ -87,6 +88,6 @@ pub term_recorded : (bytes : List ℕ) (t : ℕ) (term : Term) → term_at bytes
 unfolding term_at refuse
 term_recorded bytes t term = by (kind_of t (fields_at bytes (32 + 64 * t))) (kind_recorded t (fields_at bytes (32 + 64 * t)))
   where
-    by : (found : Option Kind) → ((kind : Kind) → found ≡ some kind → Recorded t (fields_at bytes (32 + 64 * t)) kind) → ◌≡◌ {A = Made Refusal Term} (elim found [ none ↦ refuse TERM t | some kind ↦ made (record { kind = kind }) ]) (made term) → Recorded t (fields_at bytes (32 + 64 * t)) term.kind
+    by : (found : Option Kind) → ((kind : Kind) → found ≡ some kind → Recorded t (fields_at bytes (32 + 64 * t)) kind) → ◌≡◌ {A = Made Refusal Term} (elim found [ none ↦ refuse reason.Term t | some kind ↦ made (record { kind = kind }) ]) (made term) → Recorded t (fields_at bytes (32 + 64 * t)) term.kind
     by none is h = absurd (stopped_not_made h)
     by (some kind) is h = is term.kind (cc)

@@ -1,7 +1,7 @@
 -- One pair of a byte string, by its number.
 -- Main definition: `pair_there`. Assumes nothing.
 use Rattle.std.specs.Prelude.{List, ℕ, ◌+◌, ◌-◌, ◌*◌}
-use Rattle.answer.specs.Refusals.{Refusal}
+use Rattle.answer.specs.declared.Refusal.{Refusal}
 use Rattle.fraction.specs.Made.{Made}
 use Rattle.rules_problem.specs.Problem.{Pair, pair_at}
 

@@ -9,12 +9,15 @@ pub const TERMS: usize = 64;
 // 01, The run: a row is "a fraction for each term number (columns 0 to 63) and a constant (column 64)".
 pub const COLUMNS: usize = TERMS + 1;
 
+// The column of the constant stands behind those of the terms.
+pub const CONSTANT: usize = TERMS;
+
 // 01, What comes back: "row t, column c stands at 65t + c, 4,160 places".
 pub const PLACES: usize = TERMS * COLUMNS;
 
 // What a term is; each case carries only the fields that its kind uses. A constant and a gain hold mantissa / 2^shift as
 // the record has it, not in lowest terms.
-#[derive(Clone, Copy)]
+#[derive(Clone, Copy, Debug, PartialEq, Eq)]
 pub enum Kind {
     Variable {
         symbol: u8,
@@ -51,7 +54,7 @@ pub enum Kind {
     },
 }
 
-#[derive(Clone, Copy)]
+#[derive(Clone, Copy, Debug, PartialEq, Eq)]
 pub struct Term {
     pub kind: Kind,
 }

@@ -2,6 +2,7 @@
 -- Main definitions: `TERMS`, `COLUMNS`, `PLACES`, `Row`, `Table`, `column`, `row_of`, `cell`, `row`, `same_row`. Assumes nothing.
 use Rattle.std.specs.Prelude.{Bool, true, ◌&&◌, List, [], ℕ, zero, suc, get_or}
 use Rattle.fraction.specs.Exact.{ℚ, zero_ℚ, eq_ℚ}
+use Rattle.answer.specs.declared.Reason.{Reason}
 use Rattle.fraction.specs.Made.{Made, tab}
 
 -- 01, The run: "Each term has a row: a fraction for each term number (columns 0 to 63) and a constant (column 64)."
@@ -35,7 +36,7 @@ unfoldable pub cell : Table → (t c : ℕ) → ℚ
 cell table t c = column (row_of table t) c
 
 -- the row whose columns, rising, are made by g
-unfoldable pub row : (g : ℕ → Made ℕ ℚ) → Made ℕ Row
+unfoldable pub row : (g : ℕ → Made Reason ℚ) → Made Reason Row
 row g = tab COLUMNS 0 g
 
 -- two rows have the same number in each of the first columns

@@ -27,7 +27,7 @@ highest_number terms = by_number
 -- what a run that stops at an assumption answers: 01, What comes back, the places of contradictory and 7
 unfoldable pub ends : (place : ℕ) → Stop → Answer
 ends place contradiction = Contradictory place
-ends place (outside number) = Refused number place
+ends place (outside why) = Refused why place
 
 -- 01, The run, 3: "For each assumption in file order: merge its sides, then close."
 unfoldable pub assume : (rank : ℕ → ℕ) → List Term → (place : ℕ) → List Pair → State → Made Answer State

@@ -1,6 +1,8 @@
 -- The assumptions in file order, one after another.
 -- Main results: `assuming_starts`, `sides_below_lem`, `assuming_ends`, `assuming_turned`. Assume nothing.
-use mathlib.Core.Path.{◌≡◌, refl, sym, ap, ap₂, subst, ◌∙◌}
+use Rattle.std.specs.Prelude.{Err, Ok, Result}
+use Rattle.std.proofs.lemmas.Result.{IfOk-at_ok}
+use mathlib.Core.Path.{◌≡◌, refl, sym, ap, ap₂, ◌∙◌}
 use mathlib.Core.List.{List, [], ◌∷◌}
 use Prim.Native.Nat.{ℕ, suc, ◌+◌, ◌-◌, ◌*◌, ◌<◌, ◌≤◌}
 use native.Mathlib.Omega.{arith}
@@ -18,9 +20,7 @@ use Rattle.rules_run.specs.Run.{by_number, assume}
 use Rattle.run_table.specs.Work.{Work, table_of, Resting}
 use Rattle.run_table.proofs.Columns.{kept_itself, kept_then}
 use Rattle.run_merge.specs.Contract.{state_of}
-use Rattle.run_progress.specs.declared.Ran.{Ran}
-use Rattle.run_progress.specs.declared.Ran.TheVariants.{Going, Ended}
-use Rattle.run_progress.specs.Ran.{ran, AtMost, WhileGoing}
+use Rattle.run_progress.specs.Ran.{ran}
 use Rattle.run_assume.specs.Assumed.{assumed}
 use Rattle.run_assume.specs.Contract.{EACH, Stays, Assumes, AllAssumable, AssumesAll}
 
@@ -43,9 +43,9 @@ pub record Assuming (bytes : List ℕ) (n m solved : ℕ) (heads inputs : List �
   pub resting : Resting n heads inputs w
 
 -- What assumption k leaves, by its answer: the loop goes on to the next or is over.
-pub record AssumedOne (bytes : List ℕ) (n m solved : ℕ) (heads inputs : List ℕ) (old : Work) (next : ℕ) (w : Work) (answer : Ran) : Type 0 where
-  pub on : (more : ℕ) → answer ≡ Going more → Assuming bytes n m solved heads inputs old more next w
-  pub stops : (end : Answer) → answer ≡ Ended end → AssumesAll bytes n solved (Ended end) old w
+pub record AssumedOne (bytes : List ℕ) (n m solved : ℕ) (heads inputs : List ℕ) (old : Work) (next : ℕ) (w : Work) (answer : Result ℕ Answer) : Type 0 where
+  pub on : (more : ℕ) → answer ≡ Ok more → Assuming bytes n m solved heads inputs old more next w
+  pub stops : (end : Answer) → answer ≡ Err end → AssumesAll bytes n solved (Err end) old w
 
 stays_then : {n : ℕ} {old mid new : Work} → Stays n old mid → Stays n mid new → Stays n old new
 stays_then first second = record { kept = kept_then first.kept second.kept; sound = second.sound; size = second.size ∙ first.size }
@@ -65,8 +65,8 @@ module _ {bytes : List ℕ} {n m solved : ℕ} {heads inputs : List ℕ} {old : 
 
   module _ {count k : ℕ} {w : Work} (assuming : Assuming bytes n m solved heads inputs old count k w) where
     -- None is left.
-    pub assuming_ends : m < k → AssumesAll bytes n solved (Going count) old w
-    unfolding assume ran WhileGoing
+    pub assuming_ends : m < k → AssumesAll bytes n solved (Ok count) old w
+    unfolding assume ran
     assuming_ends over =
         record {
           answers = λ problem held.
@@ -88,8 +88,8 @@ module _ {bytes : List ℕ} {n m solved : ℕ} {heads inputs : List ℕ} {old : 
           drop-cons problem.pairs (k - 1) (as_pair sides) (omega (arith, pairs_count bytes problem held))
           ∙ ap₂ (λ p j. p ∷ drop j problem.pairs) same index
 
-      module _ {answer : Ran} {new : Work} (assumes : Assumes n k sides.left sides.right count heads inputs answer w new) where
-        step : (to : Ran) → answer ≡ to → (problem : Problem) → decoded bytes ≡ made problem → assume by_number problem.terms 1 problem.pairs (state_of n old solved) ≡ ran to (table_of n new) >>= assume by_number problem.terms (suc k) (drop k problem.pairs)
+      module _ {answer : Result ℕ Answer} {new : Work} (assumes : Assumes n k sides.left sides.right count heads inputs answer w new) where
+        step : (to : Result ℕ Answer) → answer ≡ to → (problem : Problem) → decoded bytes ≡ made problem → assume by_number problem.terms 1 problem.pairs (state_of n old solved) ≡ ran to (table_of n new) >>= assume by_number problem.terms (suc k) (drop k problem.pairs)
         unfolding assume assumed as_pair
         step to is problem held =
             assuming.rest problem held
@@ -99,22 +99,22 @@ module _ {bytes : List ℕ} {n m solved : ℕ} {heads inputs : List ℕ} {old : 
 
         -- Assumption k is assumed.
         pub assuming_turned : AssumedOne bytes n m solved heads inputs old (k + 1) new answer
-        unfolding ran ◌>>=◌ AtMost WhileGoing
+        unfolding ran ◌>>=◌
         assuming_turned =
             record {
               on = λ more is.
                   let next : suc k ≡ k + 1 = omega arith in
                   let left : k ≡ k + 1 - 1 = omega arith in
-                  let few : more ≤ count + EACH = subst (AtMost (count + EACH)) is assumes.counted in
+                  let few : more ≤ count + EACH = IfOk-at_ok (λ x. x ≤ count + EACH) is assumes.counted in
                   record {
                     rest = λ problem held.
-                        step (Going more) is problem held
+                        step (Ok more) is problem held
                         ∙ ap₂ (λ j l. assume by_number problem.terms j (drop l problem.pairs) (state_of n new more)) next left;
                     stays = stays_then assuming.stays assumes.stays;
                     least = omega arith;
                     most = omega arith;
                     counted = omega (arith, assuming.counted);
-                    resting = subst (WhileGoing (Resting n heads inputs new)) is assumes.resting;
+                    resting = IfOk-at_ok (λ x. Resting n heads inputs new) is assumes.resting;
                   };
-              stops = λ end is. record { answers = step (Ended end) is; stays = stays_then assuming.stays assumes.stays; sparse = tt };
+              stops = λ end is. record { answers = step (Err end) is; stays = stays_then assuming.stays assumes.stays; sparse = tt };
             }

@@ -1,12 +1,12 @@
 -- The contract of the assumptions leaves one answer.
 -- Main result: `assume_all_unique`. Assumes nothing.
+use Rattle.std.specs.Prelude.{OnOk}
 use mathlib.Core.Path.{◌≡◌}
 use Prim.Native.Nat.{◌*◌}
 use Rattle.unique.specs.Twice.{TwiceAsked}
 use Rattle.rules_run.specs.Row.{COLUMNS}
 use Rattle.run_table.specs.Loop.{Kept}
 use Rattle.run_table.proofs.Determined.{table_determined, kept_both, lists_determined}
-use Rattle.run_progress.specs.Ran.{WhileGoing}
 use Rattle.run_progress.proofs.Going.{when_going}
 use Rattle.run_progress.proofs.Unique.{ran_determined, going_determined}
 use Rattle.run_assume.proofs.assume_all.Kinds.{ps, r}
@@ -16,7 +16,7 @@ use Rattle.run_assume.proofs.assume_all.Reads.{Pre, Post}
 -- it ends, they may hold anything that is sound. The sets are hints, of which any larger ones serve as well.) Said of the contract itself,
 -- as the toolchain reads it.
 pub assume_all_unique : TwiceAsked ps r Pre Post λ κs (bytes, (n, others₀)) x y (_, (_, (_, (nums, (dens, others))))) (_, (_, (_, (nums', (dens', others'))))).
-    (x ≡ y) × Kept 0 (COLUMNS * n) nums.now dens.now nums'.now dens'.now × WhileGoing ((nums.now ≡ nums'.now) × (dens.now ≡ dens'.now)) x
+    (x ≡ y) × Kept 0 (COLUMNS * n) nums.now dens.now nums'.now dens'.now × OnOk x ((nums.now ≡ nums'.now) × (dens.now ≡ dens'.now))
 assume_all_unique κs a x y end end' asked first second =
     let held = asked.prepared.held in
     let p = first.answers held.problem held.same in

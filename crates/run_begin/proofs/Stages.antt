@@ -1,12 +1,17 @@
 -- Steps 1 and 2 of the run, by how the build ends.
--- Main results: `begins_refused`, `begin_closable`, `begin_counted`, `begins_closed`. Assume nothing.
-use mathlib.Core.Path.{◌≡◌, ap, ◌∙◌}
+-- Main results: `build_done`, `build_refused`, `begins_refused`, `begin_closable`, `begin_counted`, `begins_closed`. Assume nothing.
+use Rattle.std.specs.Prelude.{Err, Ok, Result, IfOk, IsErrAnd, MatchResult, is_ok}
+use Rattle.std.proofs.lemmas.Result.{IfOk-at_ok, IfOk-weaker, err_from_is_err_and}
+use Rattle.run_merge.specs.declared.Halt.{Halt}
+use mathlib.Core.Path.{◌≡◌, refl, sym, ap, ◌∙◌}
+use mathlib.Core.Bool.{false≢true}
 use mathlib.Core.List.{List, []}
-use Prim.Native.Nat.{ℕ, ◌+◌}
+use Prim.Native.Nat.{ℕ, ◌+◌, ◌≤◌}
 use native.Mathlib.Omega.{arith}
 use lib.IntN.{ℤ}
 use Rattle.answer.specs.declared.Answer.{Answer}
 use Rattle.answer.specs.declared.Answer.TheVariants.{Refused}
+use Rattle.answer.specs.declared.Reason.{Reason}
 use Rattle.fraction.specs.Made.{Made, made, stopped, ◌>>=◌, because}
 use Rattle.rules_problem.specs.declared.Term.{Term}
 use Rattle.rules_problem.specs.Problem.{Problem, decoded}
@@ -15,8 +20,7 @@ use Rattle.rules_run.specs.Build.{built}
 use Rattle.rules_run.specs.Merge.{State, outside}
 use Rattle.rules_run.specs.Close.{close}
 use Rattle.rules_run.specs.Run.{by_number, ends, begin}
-use Rattle.run_table.specs.declared.Step.{Step}
-use Rattle.run_table.specs.declared.Step.TheVariants.{Done, Refused as Stopped}
+use Rattle.run_table.specs.Step.{Step}
 use Rattle.run_table.specs.Notes.{Lookups}
 use Rattle.run_table.specs.Held.{table_at}
 use Rattle.run_table.specs.Work.{Work, table_of, Resting}
@@ -26,23 +30,32 @@ use Rattle.run_build.specs.Contract.{Beginnable, Builds}
 use Rattle.run_build.specs.Store.{Store}
 use Rattle.run_build.proofs.Rows.{few_terms}
 use Rattle.run_due_pair.proofs.Woken.{all_awake}
-use Rattle.run_close.specs.declared.AfterClosing.{AfterClosing}
 use Rattle.run_close.specs.Contract.{Closable, Closes}
-use Rattle.run_close.specs.Outcome.{Counted}
-use Rattle.run_progress.specs.declared.Ran.{Ran}
-use Rattle.run_progress.specs.declared.Ran.TheVariants.{Ended}
-use Rattle.run_progress.specs.Ran.{ran, AtMost, WhileGoing, Places}
-use Rattle.run_progress.proofs.Going.{counted_more, when_going, going_holds, open_going}
+use Rattle.run_progress.specs.Ran.{ran, Places}
+use Rattle.run_progress.proofs.Going.{when_going, open_going}
 use Rattle.run_begin.specs.Contract.{Begins}
 use Rattle.run_begin.proofs.Noted.{decoded_inputs, decoded_lookups}
 
+-- The build is done where its answer with a place is, and is refused where that is.
+pub build_done : (step : Step) {built : Result (Unit {0}) Answer} {done : Unit {0}} → is_ok built ≡ is_ok step → built ≡ Ok done → step ≡ Ok tt
+build_done (Ok x) same is = refl
+build_done (Err why) same is = absurd (false≢true (sym same ∙ ap is_ok is))
+
+pub build_refused : (step : Step) {built : Result (Unit {0}) Answer} {answer : Answer} → MatchResult step (λ x. built ≡ Ok x) (λ why. IsErrAnd built (λ a. a ≡ Refused why 0)) → built ≡ Err answer
+    → (why : Reason) × (step ≡ Err why) × (answer ≡ Refused why 0)
+build_refused (Ok x) done is = absurd (false≢true (sym (ap is_ok is) ∙ ap is_ok done))
+build_refused (Err why) {built} {answer} stops is =
+    let (stop, was, same) = err_from_is_err_and built stops in
+    let one : ◌≡◌ {A = Result (Unit {0}) Answer} (Err stop) (Err answer) = sym was ∙ is in
+    (why, refl, cc)
+
 module _ (rank : ℕ → ℕ) (terms : List Term) where
   -- what is left once the build has ended
-  after : Made ℕ Table → Made Answer State
+  after : Made Reason Table → Made Answer State
   after rows = because (ends 0) (because outside rows >>= λ table. close rank terms (record { table = table; solved = 0 }))
 
   -- Where a row is refused, the run has ended at place 0.
-  begin_refused : {number : ℕ} → built terms [] ≡ stopped number → begin rank terms ≡ stopped (Refused number 0)
+  begin_refused : {why : Reason} → built terms [] ≡ stopped why → begin rank terms ≡ stopped (Refused why 0)
   unfolding begin because ◌>>=◌ ends after
   begin_refused refused = ap after refused
 
@@ -54,8 +67,8 @@ module _ (rank : ℕ → ℕ) (terms : List Term) where
 module _ {bytes : List ℕ} {n : ℕ} {old : Store} {nums dens : List ℤ} {sets heads inputs : List ℕ} {step : Step} (asked : Beginnable bytes n old)
     (builds : Builds bytes n step old (record { work = record { nums = nums; dens = dens; sets = sets }; heads = heads; inputs = inputs })) where
   -- A row is refused.
-  pub begins_refused : {number : ℕ} → step ≡ Stopped number → Begins bytes n (Ended (Refused number 0)) old (record { work = record { nums = nums; dens = dens; sets = sets }; heads = heads; inputs = inputs })
-  unfolding ran WhileGoing AtMost
+  pub begins_refused : {why : Reason} → step ≡ Err why → Begins bytes n (Err (Refused why 0)) old (record { work = record { nums = nums; dens = dens; sets = sets }; heads = heads; inputs = inputs })
+  unfolding ran
   begins_refused is =
       record {
         answers = λ problem held. begin_refused by_number problem.terms (stepped_refused _ (builds.answers problem held) is);
@@ -67,7 +80,7 @@ module _ {bytes : List ℕ} {n : ℕ} {old : Store} {nums dens : List ℤ} {sets
       }
 
   -- All rows are built: the lookups are noted, pending and open.
-  module _ (done : step ≡ Done) where
+  module _ (done : step ≡ Ok tt) where
     noted : (problem : Problem) → decoded bytes ≡ made problem → Lookups problem.terms n heads inputs
     noted problem held = decoded_lookups bytes problem held asked.terms ((builds.standing done).calls problem held)
 
@@ -93,11 +106,11 @@ module _ {bytes : List ℕ} {n : ℕ} {old : Store} {nums dens : List ℤ} {sets
         }
 
     -- They are closed.
-    module _ {c : AfterClosing} {nums' dens' : List ℤ} {sets' : List ℕ} (closes : Closes n 0 heads inputs c (record { nums = nums; dens = dens; sets = sets }) (record { nums = nums'; dens = dens'; sets = sets' })) where
-      pub begin_counted : Counted (TERMS + 1) c
-      begin_counted = counted_more c (omega (arith, few_terms asked)) closes.counted
+    module _ {c : Result ℕ Halt} {nums' dens' : List ℤ} {sets' : List ℕ} (closes : Closes n 0 heads inputs c (record { nums = nums; dens = dens; sets = sets }) (record { nums = nums'; dens = dens'; sets = sets' })) where
+      pub begin_counted : IfOk c (λ count. count ≤ TERMS + 1)
+      begin_counted = let few : n ≤ TERMS = few_terms asked in IfOk-weaker c (λ count. count ≤ 0 + n + 1) (λ count. count ≤ TERMS + 1) (λ count below. omega arith) closes.counted
 
-      pub begins_closed : {r : Ran} → Places 0 c (TERMS + 1) r → Begins bytes n r old (record { work = record { nums = nums'; dens = dens'; sets = sets' }; heads = heads; inputs = inputs })
+      pub begins_closed : {r : Result ℕ Answer} → Places 0 c (TERMS + 1) r → Begins bytes n r old (record { work = record { nums = nums'; dens = dens'; sets = sets' }; heads = heads; inputs = inputs })
       begins_closed {r} places =
           let new : Work = record { nums = nums'; dens = dens'; sets = sets' } in
           record {
@@ -109,6 +122,6 @@ module _ {bytes : List ℕ} {n : ℕ} {old : Store} {nums dens : List ℤ} {sets
             notes = builds.notes;
             size = closes.size ∙ builds.size;
             prepared = when_going r λ count going.
-                record { held = asked.held; terms = asked.terms; lookups = noted; resting = going_holds going (open_going (Resting n heads inputs new) places closes.resting) };
+                record { held = asked.held; terms = asked.terms; lookups = noted; resting = IfOk-at_ok (λ x. Resting n heads inputs new) going (open_going (Resting n heads inputs new) places closes.resting) };
             counted = places.counted;
           }

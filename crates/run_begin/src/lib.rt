@@ -7,8 +7,6 @@ ghost use Rattle.run_begin.specs.Contract.{Begins};
 
 use answer::Answer;
 use rules_problem::TERMS;
-use run_progress::Ran;
-use run_table::Step;
 
 // Closing has one turn more than there are terms, and solves at most one unknown in each.
 const MOST_SOLVED: usize = TERMS + 1;
@@ -22,19 +20,12 @@ pub fn begin(
     heads: &mut [u16],
     inputs: &mut [u8],
     sets: &mut [u64],
-) -> Ran
+) -> Result<usize, Answer>
     requires { Beginnable bytes.now n (store nums.old dens.old heads.old inputs.old sets.old) }
     ensures { Begins bytes.now n result (store nums.old dens.old heads.old inputs.old sets.old) (store nums.new dens.new heads.new inputs.new sets.new) }
 {
-    match run_build::build(bytes, n, nums, dens, heads, inputs, sets) {
-        Step::Done => run_progress::placed(
-            0,
-            run_close::close(nums, dens, n, heads, inputs, sets, 0),
-            MOST_SOLVED,
-        ),
-        Step::Refused(number) => Ran::Ended(Answer::Refused {
-            number: number,
-            place: 0,
-        }),
-    }
+    let built = run_build::build(bytes, n, nums, dens, heads, inputs, sets);
+    built.map_err(|reason| Answer::Refused { reason, place: 0 })?;
+    let closed = run_close::close(nums, dens, n, heads, inputs, sets, 0);
+    run_progress::placed(0, closed, MOST_SOLVED)
 }

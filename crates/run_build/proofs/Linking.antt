@@ -1,7 +1,6 @@
 -- The links of one more lookup are noted, and what is linked stays so.
--- Main definitions: `Using`, `Passing`. Main results: `user_noted`, `using_starts`, `using_asks`, `using_more`, `using_ends`, `passing_starts`,
--- `passing_finds`, `passing_more`, `passing_ends`, `sparse_same`, `links_none`, `links_traceable`, `links_place`, `links_noted`, `opened_same`. Assume nothing.
-use mathlib.Core.Path.{◌≡◌, refl, sym, ap, ◌∙◌, subst}
+-- Main definition: `Using`. Main results: `user_noted`, `using_more`, `earlier_found`, `sparse_same`, `links_none`, `links_traceable`, `links_place`, `links_noted`, `opened_same`. Assume nothing.
+use mathlib.Core.Path.{◌≡◌, refl, sym, ap, ◌∙◌}
 use mathlib.Core.Logic.{◌⊎◌, inl, inr, ◌≢◌}
 use mathlib.Core.Bool.{true, ◌||◌, or-true}
 use mathlib.Core.List.{List}
@@ -16,7 +15,7 @@ use lib.IntN.{ℤ}
 use Rattle.set_members.specs.Sets.{holds}
 use Rattle.run_table.specs.Sets.{SETS, USERS, EARLIER, OPEN, columns_of, users_of, earlier_of, open_of, Sparse, Linked}
 use Rattle.run_table.proofs.Linked.{linked_kept}
-use Rattle.run_build.specs.Contract.{Usable, UserNoted, AllUsable, UsersNoted, Traceable, EarlierFound, Linkable, LinksNoted}
+use Rattle.run_build.specs.Contract.{Usable, UserNoted, UsersNoted, Traceable, EarlierFound, Linkable, LinksNoted}
 use Rattle.run_build.specs.Links.{UsedBelow, Opened, UsersGrown}
 
 -- A set of users with lookup t added is stored in its place.
@@ -50,25 +49,15 @@ user_noted {input} {t} {sets} users asked told =
 
 -- In the loop over the three inputs of lookup t: it is noted as a user of the first i.
 pub record Using (i t : ℕ) (inputs sets₀ sets : List ℕ) : Type 0 where
-  pub reach : i ≤ 3
   pub grown : UsersGrown sets₀ sets
   pub used : UsedBelow i t inputs sets
 
-pub using_starts : (t : ℕ) (inputs sets : List ℕ) → Using 0 t inputs sets sets
-using_starts t inputs sets =
-    record { reach = omega arith; grown = record { same_length = refl; more = λ k j h. h; others = λ k out. refl }; used = record { used = λ i below. absurd (omega arith) } }
-
-module _ {i t : ℕ} {inputs sets₀ sets : List ℕ} (asked : AllUsable t inputs sets₀) (so_far : Using i t inputs sets₀ sets) where
-  pub using_asks : i < 3 → Usable (get_or inputs (3 * t + i) 0) t sets
-  using_asks more =
-      record { few = asked.few; small = asked.small.small (3 * t + i) (omega arith); size = so_far.grown.same_length ∙ asked.size }
-
+module _ {i t : ℕ} {inputs sets₀ sets : List ℕ} (so_far : Using i t inputs sets₀ sets) where
   -- One place more: the sets have grown, and t is among the users of what stands there.
-  pub using_more : {sets' : List ℕ} → i < 3 → UserNoted (get_or inputs (3 * t + i) 0) t sets sets' → Using (i + 1) t inputs sets₀ sets'
+  pub using_more : {sets' : List ℕ} → UserNoted (get_or inputs (3 * t + i) 0) t sets sets' → Using (i + 1) t inputs sets₀ sets'
   unfolding users_of
-  using_more {sets'} more noted =
+  using_more {sets'} noted =
       record {
-        reach = omega arith;
         grown = record {
           same_length = noted.grown.same_length ∙ so_far.grown.same_length;
           more = λ k j h. noted.grown.more k j (so_far.grown.more k j h);
@@ -81,41 +70,18 @@ module _ {i t : ℕ} {inputs sets₀ sets : List ℕ} (asked : AllUsable t input
       by k below (yes at) = rw at noted.used
       by k below (no other) = noted.grown.more (USERS + get_or inputs (3 * t + k) 0) t (so_far.used.used k (omega arith))
 
-  pub using_ends : 3 ≤ i → UsersNoted t inputs sets₀ sets
-  using_ends over =
-      let all : i ≡ 3 = omega (arith, so_far.reach) in
-      record { grown = so_far.grown; used = subst (λ k. UsedBelow k t inputs sets) all so_far.used }
-
--- In the loop back from lookup t: no lookup from i on has its head.
-pub record Passing (i t : ℕ) (heads : List ℕ) : Type 0 where
-  pub reach : i ≤ t
-  pub others : (k : ℕ) → i ≤ k → k < t → get_or heads k 0 ≡ get_or heads t 0 → ⊥
-
-pub passing_starts : (t : ℕ) (heads : List ℕ) → Passing t t heads
-passing_starts t heads = record { reach = omega arith; others = λ k above below same. omega arith }
-
-module _ {i t : ℕ} {heads : List ℕ} (passing : Passing i t heads) where
-  -- The latest lookup before t with its head, and those noted for that one, are all the lookups before t with its head.
-  pub passing_finds : {sets : List ℕ} (r : ℕ) → Traceable t heads sets → 0 < i → get_or heads (i - 1) 0 ≡ get_or heads t 0 → ((k : ℕ) → holds r k ≡ (eqb k (i - 1) || holds (get_or sets (EARLIER + (i - 1)) 0) k)) → EarlierFound t heads r
-  unfolding earlier_of
-  passing_finds {sets} r asked more here told = record { inside = λ k below same. by k below same (dec_lt k (i - 1)) (ℕ_discrete k (i - 1)) }
-    where
-      by : (k : ℕ) → k < t → get_or heads k 0 ≡ get_or heads t 0 → Dec (k < i - 1) → Dec (k ≡ i - 1) → holds r k ≡ true
-      by k below same (yes before) _ =
-          told k ∙ ap (λ b. eqb k (i - 1) || b) (asked.traced.earlier k (i - 1) before (omega (arith, passing.reach)) (λ none. asked.lookup (sym here ∙ none)) (same ∙ sym here)) ∙ or-true (eqb k (i - 1))
-      by k below same (no _) (yes at) = told k ∙ ap (λ b. b || holds (get_or sets (EARLIER + (i - 1)) 0) k) (eq-eqb k (i - 1) at)
-      by k below same (no late) (no other) = absurd (passing.others k (omega arith) below same)
-
-  -- One more term back has another head.
-  pub passing_more : 0 < i → (get_or heads (i - 1) 0 ≡ get_or heads t 0 → ⊥) → Passing (i - 1) t heads
-  passing_more more other = record { reach = omega (arith, passing.reach); others = λ k above below same. by k above below same (ℕ_discrete k (i - 1)) }
-    where
-      by : (k : ℕ) → i - 1 ≤ k → k < t → get_or heads k 0 ≡ get_or heads t 0 → Dec (k ≡ i - 1) → ⊥
-      by k above below same (yes at) = other (ap (λ x. get_or heads x 0) (sym at) ∙ same)
-      by k above below same (no apart) = passing.others k (omega arith) below same
-
-  pub passing_ends : (r : ℕ) → i ≤ 0 → EarlierFound t heads r
-  passing_ends r over = record { inside = λ k below same. absurd (passing.others k (omega arith) below same) }
+-- In the loop back from lookup t no lookup from i on has its head, but the one before has: it, and those noted for it, are all the
+-- lookups before t with its head.
+pub earlier_found : {i t r : ℕ} {heads sets : List ℕ} → Traceable t heads sets → i ≤ t → 0 < i → ((k : ℕ) → i ≤ k → k < t → get_or heads k 0 ≡ get_or heads t 0 → ⊥)
+    → get_or heads (i - 1) 0 ≡ get_or heads t 0 → ((k : ℕ) → holds r k ≡ (eqb k (i - 1) || holds (get_or sets (EARLIER + (i - 1)) 0) k)) → EarlierFound t heads r
+unfolding earlier_of
+earlier_found {i} {t} {r} {heads} {sets} asked reach more others here told = record { inside = λ k below same. by k below same (dec_lt k (i - 1)) (ℕ_discrete k (i - 1)) }
+  where
+    by : (k : ℕ) → k < t → get_or heads k 0 ≡ get_or heads t 0 → Dec (k < i - 1) → Dec (k ≡ i - 1) → holds r k ≡ true
+    by k below same (yes before) _ =
+        told k ∙ ap (λ b. eqb k (i - 1) || b) (asked.traced.earlier k (i - 1) before (omega arith) (λ none. asked.lookup (sym here ∙ none)) (same ∙ sym here)) ∙ or-true (eqb k (i - 1))
+    by k below same (no _) (yes at) = told k ∙ ap (λ b. b || holds (get_or sets (EARLIER + (i - 1)) 0) k) (eq-eqb k (i - 1) at)
+    by k below same (no late) (no other) = absurd (others k (omega arith) below same)
 
 -- Sets of columns that stay have the same rows within them.
 pub sparse_same : {n : ℕ} {nums : List ℤ} {sets sets' : List ℕ} → ((k : ℕ) → k < n → get_or sets' k 0 ≡ get_or sets k 0) → Sparse n nums sets → Sparse n nums sets'

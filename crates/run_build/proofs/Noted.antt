@@ -1,8 +1,8 @@
 -- The lookups as numbers: one more term is noted.
--- Main results: `lookup1_input` to `lookup3_third`, `lookup1_numbered` to `other_numbered`, `notable_below`, `numbers_noted`, `heads_length`,
+-- Main results: `notable_below`, `numbers_noted`, `heads_length`,
 -- `inputs_length`, `calls_noted`, `notes_more`, `inputs_noted`, `linked_noted`, `opened_noted`. Assume nothing.
 use mathlib.Core.Logic.{◌⊎◌, inl, inr, ◌≢◌}
-use mathlib.Core.Path.{◌≡◌, refl, sym, ap, ◌∙◌, subst}
+use mathlib.Core.Path.{◌≡◌, refl, sym, ap, ◌∙◌}
 use mathlib.Core.List.{List, [], ◌∷◌}
 use Prim.Native.Nat.{ℕ, zero, suc, ◌+◌, ◌-◌, ◌*◌, ◌≤◌, ◌<◌}
 use native.Mathlib.Nat.{add-zero}
@@ -10,8 +10,6 @@ use native.Mathlib.Decide.{ℕ_discrete, dec_lt}
 use native.Mathlib.Omega.{arith}
 use lib.ListN.{length, get_or, set, length-set}
 use lib.Seq.{get_or-set_same, get_or-set_other}
-use mir.Syntax.{w8}
-use mir.Val.{Fits}
 use Rattle.rules_problem.specs.declared.Kind.{Kind}
 use Rattle.rules_problem.specs.declared.Kind.TheVariants.{Variable, Constant, Gain, Sum, Difference, Lookup1, Lookup2, Lookup3}
 use Rattle.rules_problem.specs.declared.Term.{Term}
@@ -37,63 +35,6 @@ below_more (Difference left right) h b = omega arith
 below_more (Lookup1 symbol input) h b = omega arith
 below_more (Lookup2 symbol first second) h b = omega arith
 below_more (Lookup3 symbol first second third) h b = omega arith
-
--- What a lookup is noted as, by the kind that a match found: its inputs are small numbers,
-small_fits : {x : ℕ} → x < TERMS → Fits w8 x
-small_fits below = record { fits = omega arith }
-
-module _ {kind : Kind} (below : InputsEarlier TERMS kind) where
-  pub lookup1_input : {symbol input : ℕ} → kind ≡ Lookup1 symbol input → Fits w8 input
-  unfolding InputsEarlier
-  lookup1_input is = small_fits (subst (InputsEarlier TERMS) is below)
-
-  pub lookup2_first : {symbol first second : ℕ} → kind ≡ Lookup2 symbol first second → Fits w8 first
-  unfolding InputsEarlier
-  lookup2_first is = small_fits (subst (InputsEarlier TERMS) is below).0
-
-  pub lookup2_second : {symbol first second : ℕ} → kind ≡ Lookup2 symbol first second → Fits w8 second
-  unfolding InputsEarlier
-  lookup2_second is = small_fits (subst (InputsEarlier TERMS) is below).1
-
-  pub lookup3_first : {symbol first second third : ℕ} → kind ≡ Lookup3 symbol first second third → Fits w8 first
-  unfolding InputsEarlier
-  lookup3_first is = small_fits (subst (InputsEarlier TERMS) is below).0
-
-  pub lookup3_second : {symbol first second third : ℕ} → kind ≡ Lookup3 symbol first second third → Fits w8 second
-  unfolding InputsEarlier
-  lookup3_second is = small_fits (subst (InputsEarlier TERMS) is below).1
-
-  pub lookup3_third : {symbol first second third : ℕ} → kind ≡ Lookup3 symbol first second third → Fits w8 third
-  unfolding InputsEarlier
-  lookup3_third is = small_fits (subst (InputsEarlier TERMS) is below).2
-
--- and the numbers are its head, 256 for each input plus the symbol, and its inputs.
-module _ {kind : Kind} {symbol : ℕ} where
-  pub lookup1_numbered : {input : ℕ} → kind ≡ Lookup1 symbol input → Numbered kind (record { head = 256 + symbol; first = input; second = 0; third = 0 })
-  unfolding head_of input_of call_of inputs_of
-  lookup1_numbered is = rw is (record { head = refl; first = refl; second = refl; third = refl })
-
-  pub lookup2_numbered : {first second : ℕ} → kind ≡ Lookup2 symbol first second → Numbered kind (record { head = 512 + symbol; first = first; second = second; third = 0 })
-  unfolding head_of input_of call_of inputs_of
-  lookup2_numbered is = rw is (record { head = refl; first = refl; second = refl; third = refl })
-
-  pub lookup3_numbered : {first second third : ℕ} → kind ≡ Lookup3 symbol first second third → Numbered kind (record { head = 768 + symbol; first = first; second = second; third = third })
-  unfolding head_of input_of call_of inputs_of
-  lookup3_numbered is = rw is (record { head = refl; first = refl; second = refl; third = refl })
-
--- A term of another kind is no lookup.
-pub other_numbered : (kind : Kind)
-    → ((s i : ℕ) → kind ≡ Lookup1 s i → ⊥) → ((s i j : ℕ) → kind ≡ Lookup2 s i j → ⊥) → ((s i j k : ℕ) → kind ≡ Lookup3 s i j k → ⊥)
-    → Numbered kind (record { head = 0; first = 0; second = 0; third = 0 })
-unfolding head_of input_of call_of inputs_of
-other_numbered (Variable symbol) not1 not2 not3 = record { head = refl; first = refl; second = refl; third = refl }
-other_numbered (Constant value) not1 not2 not3 = record { head = refl; first = refl; second = refl; third = refl }
-other_numbered (Gain factor input) not1 not2 not3 = record { head = refl; first = refl; second = refl; third = refl }
-other_numbered (Sum left right) not1 not2 not3 = record { head = refl; first = refl; second = refl; third = refl }
-other_numbered (Difference left right) not1 not2 not3 = record { head = refl; first = refl; second = refl; third = refl }
-other_numbered (Lookup1 symbol input) not1 not2 not3 = absurd (not1 symbol input refl)
-other_numbered (Lookup2 symbol first second) not1 not2 not3 = absurd (not2 symbol first second refl)
-other_numbered (Lookup3 symbol first second third) not1 not2 not3 = absurd (not3 symbol first second third refl)
 
 -- They are stored.
 pub notable_below : {kind : Kind} {t : ℕ} {heads inputs : List ℕ} → Notable kind t heads inputs → InputsEarlier TERMS kind

@@ -1,6 +1,7 @@
 -- The table grows by one row a term: what remains to be built gives the same.
 -- Main definition: `Rising`. Main results: `few_terms`, `rising_starts`, `rising_reads`, `rising_notes`, `rising_links`, `rising_rows`,
 -- `rising_goes_on`, `rising_stops`, `rising_ends`. Assume nothing.
+use Rattle.std.specs.Prelude.{Err, Ok}
 use mathlib.Core.Path.{◌≡◌, refl, sym, ap, ◌∙◌, subst}
 use mathlib.Core.List.{List, [], ◌∷◌, ◌++◌}
 use Prim.Native.Nat.{ℕ, zero, suc, ◌+◌, ◌*◌, ◌≤◌, ◌<◌}
@@ -12,6 +13,7 @@ use lib.Seq.{drop-cons, drop-length, get_or-set_same, get_or-set_other}
 use lib.IntN.{ℤ}
 use Rattle.set_members.specs.Sets.{holds}
 use Rattle.set_members.proofs.Digits.{holds_all}
+use Rattle.answer.specs.declared.Reason.{Reason}
 use Rattle.fraction.specs.Made.{Made, made, stopped, ◌>>=◌}
 use Rattle.rules_problem.specs.declared.Kind.TheVariants.{Variable}
 use Rattle.rules_problem.specs.declared.Term.{Term}
@@ -21,8 +23,7 @@ use Rattle.rules_problem.proofs.Holding.{holding, terms_count}
 use Rattle.record_items.specs.Held.{TermHeld}
 use Rattle.rules_run.specs.Row.{COLUMNS, TERMS, Row, Table, row}
 use Rattle.rules_run.specs.Build.{built_column, built}
-use Rattle.run_table.specs.declared.Step.{Step}
-use Rattle.run_table.specs.declared.Step.TheVariants.{Done, Refused}
+use Rattle.run_table.specs.Step.{Step}
 use Rattle.run_table.specs.Notes.{LookupsNoted, NotesKept}
 use Rattle.run_table.specs.Held.{listed_from, row_at, table_at, stepped}
 use Rattle.run_table.specs.Loop.{Kept}
@@ -151,7 +152,7 @@ module _ {bytes : List ℕ} {n : ℕ} {old : Store} (asked : Beginnable bytes n 
 
             module _ {step : Step} {nums' dens' : List ℤ} {sets'' : List ℕ} (row-built : TermBuilt term.kind t step (record { nums = nums; dens = dens; sets = sets' }) (record { nums = nums'; dens = dens'; sets = sets'' })) where
               -- what remains, by what the rule makes of the next row
-              remains_next : (p : Problem) → decoded bytes ≡ made p → (next : Made ℕ Row) → row (built_column (table_at t nums dens) t term.kind) ≡ next → built p.terms [] ≡ next >>= λ r. built (drop (t + 1) p.terms) (table_at t nums dens ++ (r ∷ []))
+              remains_next : (p : Problem) → decoded bytes ≡ made p → (next : Made Reason Row) → row (built_column (table_at t nums dens) t term.kind) ≡ next → built p.terms [] ≡ next >>= λ r. built (drop (t + 1) p.terms) (table_at t nums dens ++ (r ∷ []))
               remains_next p held next e =
                   rising.remains p held
                   ∙ built_next p.terms t (table_at t nums dens) (omega (arith, count p held)) (table_length t nums dens)
@@ -163,7 +164,7 @@ module _ {bytes : List ℕ} {n : ℕ} {old : Store} (asked : Beginnable bytes n 
                   kept_then (kept_within rising.kept 0 (COLUMNS * m) (omega arith) (omega arith)) (kept_within row-built.built.kept 0 (COLUMNS * m) (omega arith) (omega arith))
 
               -- One row more is built.
-              pub rising_goes_on : step ≡ Done → Rising bytes n (t + 1) old (store nums' dens' sets'' heads' inputs')
+              pub rising_goes_on : step ≡ Ok tt → Rising bytes n (t + 1) old (store nums' dens' sets'' heads' inputs')
               unfolding ◌>>=◌
               rising_goes_on done =
                   let built-row = row-built.built in
@@ -193,11 +194,11 @@ module _ {bytes : List ℕ} {n : ℕ} {old : Store} (asked : Beginnable bytes n 
                   }
 
               -- It is refused: so is the table.
-              pub rising_stops : {number : ℕ} → step ≡ Refused number → Builds bytes n (Refused number) old (store nums' dens' sets'' heads' inputs')
+              pub rising_stops : {why : Reason} → step ≡ Err why → Builds bytes n (Err why) old (store nums' dens' sets'' heads' inputs')
               unfolding stepped ◌>>=◌
-              rising_stops {number} stops =
+              rising_stops {why} stops =
                   record {
-                    answers = λ p held. remains_next p held (stopped number) (stepped_refused (row_at nums' dens' (COLUMNS * t)) row-built.built.ends stops);
+                    answers = λ p held. remains_next p held (stopped why) (stepped_refused (row_at nums' dens' (COLUMNS * t)) row-built.built.ends stops);
                     kept = kept_to n more;
                     notes = notes_more rising_notes noted more rising.notes;
                     size = row-built.size ∙ links.size ∙ rising.rows.size ∙ sym asked.sets_size;
@@ -205,7 +206,7 @@ module _ {bytes : List ℕ} {n : ℕ} {old : Store} (asked : Beginnable bytes n 
                   }
 
     -- All rows are built, and every lookup is one to look at.
-    pub rising_ends : n ≤ t → Builds bytes n Done old (store nums dens (set sets PENDING ALL) heads inputs)
+    pub rising_ends : n ≤ t → Builds bytes n (Ok tt) old (store nums dens (set sets PENDING ALL) heads inputs)
     unfolding stepped built pending_of
     rising_ends over =
         let all : t ≡ n = omega (arith, rising.reached) in
@@ -213,7 +214,7 @@ module _ {bytes : List ℕ} {n : ℕ} {old : Store} (asked : Beginnable bytes n 
         let few = rows.few in
         let place : PENDING < length sets = omega (arith, rows.size) in
         let others : (k : ℕ) → (k ≡ PENDING → ⊥) → get_or (set sets PENDING ALL) k 0 ≡ get_or sets k 0 = λ k apart. get_or-set_other sets PENDING k ALL 0 apart in
-        subst (λ m. Builds bytes m Done old (store nums dens (set sets PENDING ALL) heads inputs)) all
+        subst (λ m. Builds bytes m (Ok tt) old (store nums dens (set sets PENDING ALL) heads inputs)) all
         (record {
           answers = λ p held. rising.remains p held ∙ ap (λ rest. built rest (table_at t nums dens)) (ap (λ k. drop k p.terms) (all ∙ count p held) ∙ drop-length p.terms);
           kept = rising.kept;

@@ -1,5 +1,6 @@
 -- The contract of the build leaves one answer, and one content of the lists.
 -- Main result: `build_unique`. Assumes nothing.
+use Rattle.std.specs.Prelude.{Ok}
 use mathlib.Core.Path.{◌≡◌, sym, ◌∙◌}
 use mathlib.Core.List.{List}
 use Prim.Native.Nat.{ℕ, ◌*◌}
@@ -7,8 +8,7 @@ use lib.ListN.{length}
 use Rattle.unique.specs.Twice.{TwiceAsked}
 use Rattle.record_reader.specs.Held.{Held}
 use Rattle.rules_run.specs.Row.{COLUMNS}
-use Rattle.run_table.specs.declared.Step.{Step}
-use Rattle.run_table.specs.declared.Step.TheVariants.{Done}
+use Rattle.run_table.specs.Step.{Step}
 use Rattle.run_table.specs.Notes.{NotesKept}
 use Rattle.run_table.specs.Lists.{both}
 use Rattle.run_table.specs.Work.{table_of}
@@ -24,7 +24,7 @@ use Rattle.run_build.proofs.build.Reads.{Pre, Post}
 -- refused, every place but those of the n terms.
 pub record SameBuild (n : ℕ) (x y : Step) (new new' : Store) : Type 0 where
   pub rows : SameEnd 0 (COLUMNS * n) x y (both new.work.nums new.work.dens) (both new'.work.nums new'.work.dens)
-  pub noted : x ≡ Done → (new.heads ≡ new'.heads) × (new.inputs ≡ new'.inputs)
+  pub noted : x ≡ Ok tt → (new.heads ≡ new'.heads) × (new.inputs ≡ new'.inputs)
   pub notes : NotesKept n new.heads new.inputs new'.heads new'.inputs
   pub size : length new.work.sets ≡ length new'.work.sets
 

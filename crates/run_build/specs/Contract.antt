@@ -1,7 +1,7 @@
 -- What the functions of the build ask for, and what they ensure: the rows of the terms, their lookups as numbers, and the links of these.
 -- Main definitions: `Beginnable`, `Standing`, `Builds`, and a record for what each of the other functions asks for or ensures.
 -- Assume nothing.
-use Rattle.std.specs.Prelude.{◌≡◌, true, List, [], ℕ, ◌+◌, ◌*◌, ◌≤◌, ◌<◌, length, get_or, set}
+use Rattle.std.specs.Prelude.{◌≡◌, true, List, [], ℕ, ◌+◌, ◌*◌, ◌≤◌, ◌<◌, length, get_or, set, Ok}
 use Rattle.set_members.specs.Sets.{holds}
 use Rattle.fraction.specs.Made.{made}
 use Rattle.rules_problem.specs.declared.Kind.{Kind}
@@ -10,8 +10,7 @@ use Rattle.rules_problem.specs.Problem.{Problem, decoded}
 use Rattle.record_reader.specs.Held.{Held}
 use Rattle.rules_run.specs.Row.{TERMS, COLUMNS, PLACES}
 use Rattle.rules_run.specs.Build.{built}
-use Rattle.run_table.specs.declared.Step.{Step}
-use Rattle.run_table.specs.declared.Step.TheVariants.{Done}
+use Rattle.run_table.specs.Step.{Step}
 use Rattle.run_table.specs.Notes.{head_of, input_of, LookupsNoted, NotesKept}
 use Rattle.run_table.specs.Held.{stepped}
 use Rattle.run_table.specs.Loop.{Kept}
@@ -117,4 +116,4 @@ pub record Builds (bytes : List ℕ) (n : ℕ) (step : Step) (old new : Store) :
   pub kept : Kept 0 (COLUMNS * n) old.work.nums old.work.dens new.work.nums new.work.dens
   pub notes : NotesKept n old.heads old.inputs new.heads new.inputs
   pub size : length new.work.sets ≡ length old.work.sets
-  pub standing : step ≡ Done → Standing bytes n new
+  pub standing : step ≡ Ok tt → Standing bytes n new

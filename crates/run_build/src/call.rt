@@ -14,6 +14,7 @@ struct Numbers {
     third: u8,
 }
 
+#[tactic(auto, unfolding(run_build_row::specs::Buildable::InputsEarlier, run_table::specs::Notes::head_of, run_table::specs::Notes::input_of, rules_problem::specs::Lookup::call_of, rules_problem::specs::Lookup::inputs_of))]
 fn numbers_of(kind: Kind) -> Numbers
     requires { InputsEarlier TERMS kind }
     ensures { Numbered kind result }
@@ -56,6 +57,7 @@ fn numbers_of(kind: Kind) -> Numbers
 }
 
 // The head of term t at place t, its inputs at 3t, 3t + 1 and 3t + 2.
+#[tactic(auto, using(crate::proofs::Noted::notable_below))]
 pub(crate) fn note_call(term: Term, t: usize, heads: &mut [u16], inputs: &mut [u8])
     requires { Notable term.kind t heads.old inputs.old }
     ensures { CallNoted term.kind t heads.old inputs.old heads.new inputs.new }

@@ -9,9 +9,10 @@ ghost use Rattle.run_build.specs.Store.{store};
 
 use crate::call::note_call;
 use crate::links::note_links;
+use answer::Reason;
 use record_items::term_at;
 use run_build_row::build_term;
-use run_table::{PENDING, Step};
+use run_table::PENDING;
 
 // The rows, the calls and the links of the n terms that the bytes hold, until a row is refused. At the end every lookup is open, and
 // one that closing has to look at. The users of a term are added to what its set holds at entry.
@@ -23,22 +24,16 @@ pub fn build(
     heads: &mut [u16],
     inputs: &mut [u8],
     sets: &mut [u64],
-) -> Step
+) -> Result<(), Reason>
     requires { Beginnable bytes.now n (store nums.old dens.old heads.old inputs.old sets.old) }
     ensures { Builds bytes.now n result (store nums.old dens.old heads.old inputs.old sets.old) (store nums.new dens.new heads.new inputs.new sets.new) }
 {
-    let mut t: usize = 0;
-    while t < n {
+    for t in 0..n {
         let term = term_at(bytes, t);
         note_call(term, t, heads, inputs);
         note_links(t, heads, inputs, sets);
-        match build_term(term, t, nums, dens, sets) {
-            Step::Done => {
-                t += 1;
-            }
-            Step::Refused(number) => return Step::Refused(number),
-        }
+        build_term(term, t, nums, dens, sets)?;
     }
     sets[PENDING] = set_members::ALL;
-    Step::Done
+    Ok(())
 }

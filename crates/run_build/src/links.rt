@@ -15,14 +15,13 @@ fn note_user(input: u8, t: usize, sets: &mut [u64])
 }
 
 // Lookup t uses what stands in its three places. One without an input holds 0, so that t is noted as a user of term 0 too.
+#[tactic(auto, using(crate::proofs::Linking::using_more))]
 fn note_users(t: usize, inputs: &[u8], sets: &mut [u64])
     requires { AllUsable t inputs.now sets.old }
     ensures { UsersNoted t inputs.now sets.old sets.new }
 {
-    let mut i: usize = 0;
-    while i < 3 {
+    for i in 0..3 {
         note_user(inputs[3 * t + i], t, sets);
-        i += 1;
     }
 }
 
@@ -32,9 +31,7 @@ fn earlier_of(heads: &[u16], sets: &[u64], t: usize) -> u64
     ensures { EarlierFound t heads.now result }
 {
     let head = heads[t];
-    let mut i = t;
-    while i > 0 {
-        i -= 1;
+    for i in (0..t).rev() {
         if heads[i] == head {
             return set_members::with(sets[EARLIER + i], i);
         }
@@ -43,6 +40,7 @@ fn earlier_of(heads: &[u16], sets: &[u64], t: usize) -> u64
 }
 
 // Term t, whose head and inputs are noted, is linked, if it is a lookup.
+#[tactic(auto, using(crate::proofs::Linking::links_traceable))]
 pub(crate) fn note_links(t: usize, heads: &[u16], inputs: &[u8], sets: &mut [u64])
     requires { Linkable t heads.now inputs.now sets.old }
     ensures { LinksNoted t heads.now inputs.now sets.old sets.new }

@@ -1,16 +1,14 @@
 -- The row of an unknown or of a constant is one place of a blank row; the other terms combine earlier rows.
--- Main results: `alone_stands`, `unknown_placed`, `unknown_stands`, `variable_makes`, `lookup1_makes`, `lookup2_makes`, `lookup3_makes`,
--- `constant_placed`, `constant_makes`, `combined`, `not_combined`. Assume nothing.
+-- Main definition: `Unknown`. Main results: `alone_stands`, `unknown_placed`, `unknown_stands`, `unknown_makes`, `constant_makes`. Assume nothing.
+use Rattle.std.specs.Prelude.{Ok}
 use mathlib.Core.Path.{◌≡◌, refl, sym, ap, ◌∙◌, subst, fun_ext}
-use mathlib.Core.Logic.{inr, ◌≢◌}
+use mathlib.Core.Logic.{◌⊎◌, inl, inr, ◌≢◌}
 use mathlib.Core.Bool.{Bool, true, false, cond}
-use mathlib.Core.List.{List, [], ◌∷◌}
+use mathlib.Core.List.{List}
 use Prim.Native.Nat.{ℕ, ◌+◌, ◌*◌, ◌<◌}
 use native.Mathlib.Decide.{dec_lt}
 use native.Mathlib.Omega.{arith}
 use borrow.Author.Tests.{eq-eqb, ne_eqb}
-use denote.Enum.Declared.{tag_of}
-use types.Run.{OneOf, miss}
 use lib.ListN.{set}
 use lib.IntN.{ℤ, pos}
 use Rattle.set_members.specs.Sets.{holds}
@@ -18,23 +16,21 @@ use Rattle.fraction.specs.declared.Fraction.{Fraction}
 use Rattle.fraction.specs.declared.Scaled.{Scaled}
 use Rattle.fraction.specs.Exact.{ℚ, worth, zero_ℚ, one_ℚ}
 use Rattle.fraction_reduce.specs.Values.{value}
+use Rattle.answer.specs.declared.Reason.{Reason}
 use Rattle.fraction.specs.Made.{Made, made}
 use Rattle.fraction.proofs.Field.{one_not_zero}
 use Rattle.fraction_reduce.proofs.Tests.{zero_stands}
 use Rattle.rules_problem.specs.declared.Kind.{Kind}
-use Rattle.rules_problem.specs.declared.Kind.TheVariants.{Variable, Constant, Gain, Sum, Difference, Lookup1, Lookup2, Lookup3}
-use Rattle.rules_problem.specs.contracts.Kind.{the_type}
+use Rattle.rules_problem.specs.declared.Kind.TheVariants.{Variable, Constant, Lookup1, Lookup2, Lookup3}
 use Rattle.rules_run.specs.Row.{COLUMNS, TERMS, constant}
 use Rattle.rules_run.specs.Build.{alone, built_column}
-use Rattle.run_table.specs.declared.Step.{Step}
-use Rattle.run_table.specs.declared.Step.TheVariants.{Done}
+use Rattle.run_table.specs.Step.{Step}
 use Rattle.run_table.specs.Lists.{Lists, both}
 use Rattle.run_table.specs.Loop.{RowMade}
 use Rattle.run_table.specs.Sets.{Within}
 use Rattle.run_table.proofs.Rows.{making_starts, making_goes_on}
 use Rattle.run_table.proofs.Sparse.{making_skips, within_set, within_other}
 use Rattle.run_table.proofs.Turns.{turns_end}
-use Rattle.run_build_row.specs.Buildable.{Combined}
 use Rattle.run_build_row.specs.Contract.{column_built, cell_at, Blanked, Placeable, StandsAlone, Makeable, Makes}
 use Rattle.run_build_row.specs.Sparse.{Covered}
 use Rattle.run_build_row.proofs.Building.{row_made_built}
@@ -44,7 +40,7 @@ use Rattle.run_build_row.proofs.Sparse.{blank_sound, blank_within}
 
 module _ {t only : ℕ} {f : Fraction} {l : Lists} (asked : Placeable t only f l) where
   -- the rule of such a row
-  abbrev rule : ℕ → Made ℕ ℚ
+  abbrev rule : ℕ → Made Reason ℚ
   rule c = made (alone only (value f) c)
 
   -- it makes 0 of the other columns, and they hold it
@@ -59,10 +55,10 @@ module _ {t only : ℕ} {f : Fraction} {l : Lists} (asked : Placeable t only f l
   here = ap (λ b. made (cond b (value f) zero_ℚ)) (eq-eqb only only refl)
 
   -- One place is stored: the row is made, and it has no columns but that one.
-  pub alone_stands : {nums dens : List ℤ} → nums ≡ set l.nums (COLUMNS * t + only) f.num → dens ≡ set l.dens (COLUMNS * t + only) f.den → StandsAlone t only (value f) Done l (both nums dens)
+  pub alone_stands : {nums dens : List ℤ} → nums ≡ set l.nums (COLUMNS * t + only) f.num → dens ≡ set l.dens (COLUMNS * t + only) f.den → StandsAlone t only (value f) (Ok tt) l (both nums dens)
   alone_stands num den = rw (num, den) (record { row_made = made_row; within = λ columns held. by columns held (dec_lt only TERMS) })
     where
-      made_row : RowMade rule (COLUMNS * t) (COLUMNS * (t + 1)) Done l.nums l.dens (set l.nums (COLUMNS * t + only) f.num) (set l.dens (COLUMNS * t + only) f.den)
+      made_row : RowMade rule (COLUMNS * t) (COLUMNS * (t + 1)) (Ok tt) l.nums l.dens (set l.nums (COLUMNS * t + only) f.num) (set l.dens (COLUMNS * t + only) f.den)
       made_row =
           let room = asked.row.rows.room in
           let inside = asked.column in
@@ -86,47 +82,44 @@ pub unknown_stands : {t : ℕ} {step : Step} {old new : Lists} → StandsAlone t
 unknown_stands {t} {step} {old} {new} stands = subst (λ q. StandsAlone t t q step old new) one_stands.same stands
 
 -- A column of which the rule makes 1 is in the set.
-pub covered_one : {columns : ℕ} {rule : ℕ → Made ℕ ℚ} → Covered columns rule → (c : ℕ) → c < TERMS → rule c ≡ made one_ℚ → holds columns c ≡ true
+pub covered_one : {columns : ℕ} {rule : ℕ → Made Reason ℚ} → Covered columns rule → (c : ℕ) → c < TERMS → rule c ≡ made one_ℚ → holds columns c ≡ true
 covered_one {columns} {rule} covered c below one = by (holds columns c) refl
   where
     by : (b : Bool) → holds columns c ≡ b → holds columns c ≡ true
     by true e = e
     by false e =
-        let same : ◌≡◌ {A = Made ℕ ℚ} (made one_ℚ) (made zero_ℚ) = sym one ∙ covered.zero c below e in
+        let same : ◌≡◌ {A = Made Reason ℚ} (made one_ℚ) (made zero_ℚ) = sym one ∙ covered.zero c below e in
         let equal : one_ℚ ≡ zero_ℚ = cc in
         absurd (one_not_zero equal)
+
+-- a variable or a lookup, as a match on the kind finds it
+abbrev pub Unknown : Kind → Type 0
+Unknown kind =
+    ((symbol : ℕ) × (kind ≡ Variable symbol))
+    ⊎ (((symbol : ℕ) × (input : ℕ) × (kind ≡ Lookup1 symbol input))
+    ⊎ (((symbol : ℕ) × (first : ℕ) × (second : ℕ) × (kind ≡ Lookup2 symbol first second))
+    ⊎ ((symbol : ℕ) × (first : ℕ) × (second : ℕ) × (third : ℕ) × (kind ≡ Lookup3 symbol first second third))))
 
 -- The row of the kind that the match found is made within the set.
 module _ {kind : Kind} {factor : Fraction} {t columns : ℕ} {l : Lists} (asked : Makeable kind factor t columns l) where
   -- an unknown's: 01, The run: "Unknowns are variables and lookups."
-  unknown_makes : {step : Step} {new : Lists} → ((c : ℕ) → column_built kind t l c ≡ made (alone t one_ℚ c)) → StandsAlone t t one_ℚ step l new → Makes kind t columns step l new
+  unknown_column : Unknown kind → (c : ℕ) → column_built kind t l c ≡ made (alone t one_ℚ c)
+  unfolding built_column
+  unknown_column (inl (_, is)) c = ap (λ k. column_built k t l c) is
+  unknown_column (inr (inl (_, _, is))) c = ap (λ k. column_built k t l c) is
+  unknown_column (inr (inr (inl (_, _, _, is)))) c = ap (λ k. column_built k t l c) is
+  unknown_column (inr (inr (inr (_, _, _, _, is)))) c = ap (λ k. column_built k t l c) is
+
+  pub unknown_makes : {step : Step} {new : Lists} → Unknown kind → StandsAlone t t one_ℚ step l new → Makes kind t columns step l new
   unfolding alone
-  unknown_makes {step} {new} is stands =
+  unknown_makes {step} {new} found stands =
+      let is = unknown_column found in
       record {
         built = row_made_built (subst (λ g. RowMade g (COLUMNS * t) (COLUMNS * (t + 1)) step l.nums l.dens new.nums new.dens) (sym (fun_ext is)) stands.row_made);
         within = stands.within columns (λ below. covered_one asked.covered t below (is t ∙ ap (λ b. made (cond b one_ℚ zero_ℚ)) (eq-eqb t t refl)));
       }
 
-  pub variable_makes : {symbol : ℕ} {step : Step} {new : Lists} → kind ≡ Variable symbol → StandsAlone t t one_ℚ step l new → Makes kind t columns step l new
-  unfolding built_column
-  variable_makes is = unknown_makes (λ c. ap (λ k. column_built k t l c) is)
-
-  pub lookup1_makes : {symbol input : ℕ} {step : Step} {new : Lists} → kind ≡ Lookup1 symbol input → StandsAlone t t one_ℚ step l new → Makes kind t columns step l new
-  unfolding built_column
-  lookup1_makes is = unknown_makes (λ c. ap (λ k. column_built k t l c) is)
-
-  pub lookup2_makes : {symbol first second : ℕ} {step : Step} {new : Lists} → kind ≡ Lookup2 symbol first second → StandsAlone t t one_ℚ step l new → Makes kind t columns step l new
-  unfolding built_column
-  lookup2_makes is = unknown_makes (λ c. ap (λ k. column_built k t l c) is)
-
-  pub lookup3_makes : {symbol first second third : ℕ} {step : Step} {new : Lists} → kind ≡ Lookup3 symbol first second third → StandsAlone t t one_ℚ step l new → Makes kind t columns step l new
-  unfolding built_column
-  lookup3_makes is = unknown_makes (λ c. ap (λ k. column_built k t l c) is)
-
   -- a constant's
-  pub constant_placed : Placeable t constant factor l
-  constant_placed = record { row = asked.row; column = omega arith; good = asked.fraction.good }
-
   pub constant_makes : {s : Scaled} {step : Step} {new : Lists} → kind ≡ Constant s → StandsAlone t constant (value factor) step l new → Makes kind t columns step l new
   unfolding built_column
   constant_makes {s} {step} {new} is stands =
@@ -135,25 +128,3 @@ module _ {kind : Kind} {factor : Fraction} {t columns : ℕ} {l : Lists} (asked 
         built = row_made_built (subst (λ k. RowMade (column_built k t l) (COLUMNS * t) (COLUMNS * (t + 1)) step l.nums l.dens new.nums new.dens) (sym is) worth-placed);
         within = stands.within columns (λ below. absurd (omega arith));
       }
-
-pub combined : (kind : Kind) → OneOf (2 ∷ 3 ∷ 4 ∷ []) (tag_of the_type kind) → Combined kind
-unfolding Combined
-combined (Variable symbol) tag = absurd (miss (2 ∷ 3 ∷ 4 ∷ []) 0 tt tag)
-combined (Constant held) tag = absurd (miss (2 ∷ 3 ∷ 4 ∷ []) 1 tt tag)
-combined (Gain factor input) tag = tt
-combined (Sum left right) tag = tt
-combined (Difference left right) tag = tt
-combined (Lookup1 symbol input) tag = absurd (miss (2 ∷ 3 ∷ 4 ∷ []) 5 tt tag)
-combined (Lookup2 symbol first second) tag = absurd (miss (2 ∷ 3 ∷ 4 ∷ []) 6 tt tag)
-combined (Lookup3 symbol first second third) tag = absurd (miss (2 ∷ 3 ∷ 4 ∷ []) 7 tt tag)
-
-pub not_combined : (kind : Kind) → ((s : Scaled) (input : ℕ) → kind ≡ Gain s input → ⊥) → ((left right : ℕ) → kind ≡ Sum left right → ⊥) → ((left right : ℕ) → kind ≡ Difference left right → ⊥) → Combined kind → ⊥
-unfolding Combined
-not_combined (Variable symbol) no-gain no-sum no-difference h = h
-not_combined (Constant held) no-gain no-sum no-difference h = h
-not_combined (Gain factor input) no-gain no-sum no-difference h = no-gain factor input refl
-not_combined (Sum left right) no-gain no-sum no-difference h = no-sum left right refl
-not_combined (Difference left right) no-gain no-sum no-difference h = no-difference left right refl
-not_combined (Lookup1 symbol input) no-gain no-sum no-difference h = h
-not_combined (Lookup2 symbol first second) no-gain no-sum no-difference h = h
-not_combined (Lookup3 symbol first second third) no-gain no-sum no-difference h = h

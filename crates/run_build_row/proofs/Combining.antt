@@ -1,5 +1,7 @@
 -- A column of a row that is made of earlier rows: what is read of them is good, and what the operation answers is the rule's column.
 -- Main results: `earlier_read`, `earlier_good`, `gain_answers`, `sum_answers`, `difference_answers`. Assume nothing.
+use Rattle.std.specs.Prelude.{Result}
+use Rattle.answer.specs.declared.Reason.{Reason}
 use mathlib.Core.Path.{◌≡◌, sym, ap₂, subst}
 use Prim.Native.Nat.{ℕ, ◌<◌}
 use native.Mathlib.Omega.{arith}
@@ -7,7 +9,6 @@ use Rattle.fraction.specs.declared.Fraction.{Fraction}
 use Rattle.fraction.specs.declared.Scaled.{Scaled}
 use Rattle.fraction.specs.Exact.{worth}
 use Rattle.fraction.specs.Limits.{plus, minus, times}
-use Rattle.fraction_reduce.specs.declared.Tested.{Tested}
 use Rattle.fraction_reduce.specs.Values.{value, Good, Stands, Answers}
 use Rattle.rules_problem.specs.declared.Kind.{Kind}
 use Rattle.rules_problem.specs.declared.Kind.TheVariants.{Gain, Sum, Difference}
@@ -33,15 +34,15 @@ module _ {kind : Kind} {factor : Fraction} {t c : ℕ} {l : Lists} (asked : Comb
   earlier_good before read = (earlier_stands before read).good
 
   -- the rule for the kind that the match found
-  found : {r : Tested} {other : Kind} → kind ≡ other → Answers r (column_built other t l c) → Answers r (column_built kind t l c)
+  found : {r : Result Fraction Reason} {other : Kind} → kind ≡ other → Answers r (column_built other t l c) → Answers r (column_built kind t l c)
   found {r} is = subst (λ k. Answers r (column_built k t l c)) (sym is)
 
-  pub gain_answers : {s : Scaled} {f : Fraction} {input : ℕ} {r : Tested} → kind ≡ Gain s input → f ≡ cell_at input c l → Answers r (times (value factor) (value f)) → Answers r (column_built kind t l c)
+  pub gain_answers : {s : Scaled} {f : Fraction} {input : ℕ} {r : Result Fraction Reason} → kind ≡ Gain s input → f ≡ cell_at input c l → Answers r (times (value factor) (value f)) → Answers r (column_built kind t l c)
   unfolding built_column
   gain_answers {r = r} is read answers =
       found is (subst (Answers r) (ap₂ times (gain_holds (λ s. value factor ≡ worth s) asked.fraction.same is) (earlier_stands (gain_below asked.inputs is) read).same) answers)
 
-  module _ {left right : ℕ} {f g : Fraction} {r : Tested} where
+  module _ {left right : ℕ} {f g : Fraction} {r : Result Fraction Reason} where
     pub sum_answers : kind ≡ Sum left right → f ≡ cell_at left c l → g ≡ cell_at right c l → Answers r (plus (value f) (value g)) → Answers r (column_built kind t l c)
     unfolding built_column
     sum_answers is first second answers =

@@ -1,22 +1,21 @@
 -- The loop that makes the row of a gain, a sum or a difference: the law of loops over the columns of a set, put to use.
--- Main definition: `Joining`. Main results: `joining_starts`, `joining_reads`, `joining_answers`, `joining_makes`. Assume nothing.
+-- Main definition: `Joining`. Main results: `joining_starts`, `joining_answers`, `joining_makes`. Assume nothing.
+use Rattle.std.specs.Prelude.{Result}
+use Rattle.answer.specs.declared.Reason.{Reason}
 use mathlib.Core.Path.{subst}
 use mathlib.Core.List.{List}
 use Prim.Native.Nat.{ℕ, ◌+◌, ◌*◌}
 use native.Mathlib.Omega.{arith}
 use lib.IntN.{ℤ}
-use Rattle.set_extremes.specs.Extremes.{Next}
-use Rattle.fraction_reduce.specs.declared.Tested.{Tested}
 use Rattle.fraction_reduce.specs.Values.{Answers}
 use Rattle.fraction.specs.declared.Fraction.{Fraction}
 use Rattle.rules_problem.specs.declared.Kind.{Kind}
 use Rattle.rules_run.specs.Row.{COLUMNS}
 use Rattle.rules_run.specs.Build.{built_column}
-use Rattle.run_table.specs.declared.Step.{Step}
+use Rattle.run_table.specs.Step.{Step}
 use Rattle.run_table.specs.Lists.{Lists, both}
-use Rattle.run_table.proofs.Columns.{sound_fewer}
 use Rattle.run_table.proofs.OverSet.{Taking, Gone, taking_starts, gone_within}
-use Rattle.run_build_row.specs.Contract.{column_built, Combinable, Joinable, Makes}
+use Rattle.run_build_row.specs.Contract.{column_built, Joinable, Makes}
 use Rattle.run_build_row.proofs.Building.{table_kept, row_made_built}
 use Rattle.run_build_row.proofs.Sparse.{blank_sound, blank_within, blank_leaves}
 
@@ -33,24 +32,8 @@ module _ {kind : Kind} {factor : Fraction} {t columns : ℕ} {old : Lists} (aske
       taking_starts (omega (arith, room.nums_fit)) (omega (arith, room.dens_fit)) (omega arith) (blank_sound row.blank row.rows.sound) (blank_leaves row.blank asked.asked.covered)
 
   module _ {c rest : ℕ} (at : ℕ) {nums dens : List ℤ} (joining : Joining kind t columns c rest old nums dens) where
-    -- The place of the next column is there, and the rows before row t are as they were, so that its column can be combined.
-    pub joining_reads : Next rest 0 at → Combinable kind factor t at (both nums dens)
-    joining_reads next =
-        let room = asked.asked.row.rows.room in
-        let making = joining.going.making in
-        record {
-          rows = record {
-            room = record { few = room.few; nums_fit = omega (arith, making.kept.nums_length, room.nums_fit); dens_fit = omega (arith, making.kept.dens_length, room.dens_fit) };
-            sound = sound_fewer (COLUMNS * t) (omega arith) making.sound;
-          };
-          column = omega (arith, next.most);
-          inputs = asked.asked.inputs;
-          fraction = asked.asked.fraction;
-          combined = asked.combined;
-        }
-
-    -- And what it comes to is the rule's column of the rows as they were.
-    pub joining_answers : {r : Tested} → Answers r (column_built kind t (both nums dens) at) → Answers r (column_built kind t old at)
+    -- What the next column comes to is the rule's column of the rows as they were.
+    pub joining_answers : {r : Result Fraction Reason} → Answers r (column_built kind t (both nums dens) at) → Answers r (column_built kind t old at)
     joining_answers {r} = subst (λ table. Answers r (built_column table t kind at)) (table_kept t joining.going.making.kept)
 
   -- Over: the row is built, within the set.

@@ -2,7 +2,6 @@ pub mod Alone
 pub mod Building
 pub mod Columns
 pub mod Combining
-pub mod Covering
 pub mod Inputs
 pub mod Joining
 pub mod Lowering

@@ -1,5 +1,5 @@
 -- The row of a term starts blank and is made from column to column of a set, outside of which the rule makes 0.
--- Main results: `blanks`, `blank_sound`, `blank_within`, `blank_leaves`, `may_hold_covers`, `sparse_more`. Assume nothing.
+-- Main results: `blank_sound`, `blank_within`, `blank_leaves`, `may_hold_covers`, `sparse_more`. Assume nothing.
 use mathlib.Core.Path.{◌≡◌, refl, sym, ap, ap₂, ◌∙◌}
 use mathlib.Core.Logic.{inl}
 use mathlib.Core.Bool.{Bool, true, false, ◌||◌, cond, true≢false}
@@ -11,10 +11,11 @@ use borrow.Author.Tests.{ne_eqb}
 use lib.Dec.{eqb}
 use lib.ListN.{get_or, set, length}
 use lib.Seq.{get_or-set_same, get_or-set_other}
-use lib.IntN.{ℤ, pos}
+use lib.IntN.{ℤ}
 use Rattle.set_members.specs.Sets.{holds}
 use Rattle.fraction.specs.Exact.{ℚ, worth, zero_ℚ, ◌+ℚ◌, ◌-ℚ◌, ◌*ℚ◌}
 use Rattle.fraction.specs.Limits.{tested, plus, minus, times}
+use Rattle.answer.specs.declared.Reason.{Reason}
 use Rattle.fraction.specs.Made.{Made, made}
 use Rattle.fraction.proofs.Field.{plus_zero, plus_inverse, times_zero, minus_is_plus}
 use Rattle.fraction_reduce.specs.Values.{Good}
@@ -24,36 +25,14 @@ use Rattle.rules_problem.specs.declared.Kind.TheVariants.{Variable, Constant, Ga
 use Rattle.rules_run.specs.Row.{TERMS, COLUMNS, constant, cell}
 use Rattle.rules_run.specs.Build.{alone, built_column}
 use Rattle.run_table.specs.Held.{held_at, table_at, SoundTo}
-use Rattle.run_table.specs.Lists.{Lists, both}
 use Rattle.run_table.specs.Loop.{Kept}
 use Rattle.run_table.specs.Sets.{Within, Sparse, columns_of}
 use Rattle.run_table.proofs.OverSet.{Leaves}
 use Rattle.run_table.proofs.Sparse.{zero_numerator}
-use Rattle.run_fill.specs.Contract.{Filled}
-use Rattle.run_fill.proofs.Filling.{filling_goes_on}
 use Rattle.run_build_row.specs.Buildable.{InputsEarlier}
-use Rattle.run_build_row.specs.Contract.{Room, Blanks}
 use Rattle.run_build_row.specs.Sparse.{may_hold, Covered, Blank}
 use Rattle.run_build_row.proofs.Building.{table_kept}
 use Rattle.run_build_row.proofs.Columns.{cell_stands}
-
--- The row filled with 0 in the terms' columns, then in the constant's, and with 1 as denominators, is blank.
-pub blanks : {t : ℕ} {old : Lists} {terms dens : List ℤ} → Room t old → Filled (COLUMNS * t) (COLUMNS * t + TERMS) (pos 0) old.nums terms → Filled (COLUMNS * t) (COLUMNS * t + COLUMNS) (pos 1) old.dens dens → Blanks t old (both (set terms (COLUMNS * t + constant) (pos 0)) dens)
-blanks {t} {old} {terms} room zeros ones =
-    let whole : COLUMNS * t + TERMS + 1 ≡ COLUMNS * t + COLUMNS = omega arith in
-    let sized = zeros.same_length in
-    let all = rw whole at (filling_goes_on (COLUMNS * t) (COLUMNS * t + TERMS) (pos 0) _ _ (omega arith) (omega (arith, room.few, room.nums_fit)) zeros) in
-    record {
-      kept = record {
-        nums_length = all.same_length;
-        dens_length = ones.same_length;
-        outside = λ k out i. record { num = all.outside k out i; den = ones.outside k out i };
-      };
-      blank = record {
-        num = λ c below. all.inside (COLUMNS * t + c) (omega arith) (omega arith);
-        den = λ c below. ones.inside (COLUMNS * t + c) (omega arith) (omega arith);
-      };
-    }
 
 module _ {t : ℕ} {nums dens : List ℤ} (blank : Blank t nums dens) where
   -- A blank row behind sound ones is sound.
@@ -71,7 +50,7 @@ module _ {t : ℕ} {nums dens : List ℤ} (blank : Blank t nums dens) where
   blank_within columns = record { zero = λ c below out. blank.num c (omega arith) }
 
   -- It holds what the rule makes outside the set.
-  pub blank_leaves : {columns : ℕ} {rule : ℕ → Made ℕ ℚ} → Covered columns rule → Leaves rule columns (COLUMNS * t) nums dens
+  pub blank_leaves : {columns : ℕ} {rule : ℕ → Made Reason ℚ} → Covered columns rule → Leaves rule columns (COLUMNS * t) nums dens
   blank_leaves covered =
       record { stands = λ c below out. covered.zero c below out ∙ ap made (sym (zero_stands (blank.num c (omega arith)) (blank.den c (omega arith))).same) }
 
@@ -79,7 +58,7 @@ both_false : (a b : Bool) → (a || b) ≡ false → (a ≡ false) × (b ≡ fal
 both_false true b none = absurd (true≢false none)
 both_false false b none = (refl, none)
 
-alone_zero : (only : ℕ) (q : ℚ) (c : ℕ) → eqb c only ≡ false → ◌≡◌ {A = Made ℕ ℚ} (made (alone only q c)) (made zero_ℚ)
+alone_zero : (only : ℕ) (q : ℚ) (c : ℕ) → eqb c only ≡ false → ◌≡◌ {A = Made Reason ℚ} (made (alone only q c)) (made zero_ℚ)
 unfolding alone
 alone_zero only q c other = ap (λ b. made (cond b q zero_ℚ)) other
 

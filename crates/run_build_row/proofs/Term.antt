@@ -1,5 +1,5 @@
 -- The row of a term, step by step: its fraction in lowest terms, its columns read off the sets, its row made blank and then built.
--- Main results: `term_coverable`, `term_makeable`, `term_built`. Assume nothing.
+-- Main results: `term_makeable`, `term_built`. Assume nothing.
 use mathlib.Core.Path.{◌≡◌}
 use mathlib.Core.List.{List}
 use Prim.Native.Nat.{ℕ, ◌*◌}
@@ -11,18 +11,15 @@ use Rattle.set_members.specs.Sets.{holds}
 use Rattle.fraction.specs.declared.Fraction.{Fraction}
 use Rattle.rules_problem.specs.declared.Kind.{Kind}
 use Rattle.rules_run.specs.Row.{COLUMNS}
-use Rattle.run_table.specs.declared.Step.{Step}
+use Rattle.run_table.specs.Step.{Step}
 use Rattle.run_table.specs.Lists.{Lists, both}
 use Rattle.run_build_row.specs.Buildable.{FactorOf}
-use Rattle.run_build_row.specs.Contract.{Blanks, Coverable, Makeable, Makes, TermBuildable, TermBuilt}
+use Rattle.run_build_row.specs.Contract.{Blanks, Makeable, Makes, TermBuildable, TermBuilt}
 use Rattle.run_build_row.specs.Sparse.{may_hold}
 use Rattle.run_build_row.proofs.Building.{sound_kept, built_after}
 use Rattle.run_build_row.proofs.Sparse.{may_hold_covers, sparse_more}
 
 module _ {kind : Kind} {t : ℕ} {nums dens : List ℤ} {sets : List ℕ} (asked : TermBuildable kind t (record { nums = nums; dens = dens; sets = sets })) where
-  pub term_coverable : Coverable kind t sets
-  term_coverable = record { few = asked.few; size = asked.rows.size; inputs = asked.term.inputs }
-
   module _ {columns : ℕ} {blanked : Lists} (covers : (c : ℕ) → holds columns c ≡ may_hold sets t kind c) (blanks : Blanks t (both nums dens) blanked) where
     pub term_makeable : {factor : Fraction} → FactorOf kind factor → Makeable kind factor t columns blanked
     term_makeable fraction =

@@ -9,7 +9,7 @@ use lib.IntN.{ℤ}
 use Rattle.unique.specs.Twice.{Twice}
 use Rattle.rules_problem.specs.declared.Kind.{Kind}
 use Rattle.rules_run.specs.Row.{COLUMNS}
-use Rattle.run_table.specs.declared.Step.{Step}
+use Rattle.run_table.specs.Step.{Step}
 use Rattle.run_table.specs.Held.{row_at}
 use Rattle.run_table.specs.Lists.{both}
 use Rattle.run_table.proofs.Determined.{step_determined, done_determined, row_determined, lists_determined}

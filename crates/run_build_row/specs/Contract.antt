@@ -2,17 +2,17 @@
 -- column to column of a set, outside of which the rule makes 0.
 -- Main definitions: `column_built`, `cell_at`, `Room`, `Behind`, `RowBuilt`, `TermBuildable`, `TermBuilt`, and a record for what each of the
 -- other functions asks for or ensures. Assume nothing.
-use Rattle.std.specs.Prelude.{◌≡◌, true, List, ℕ, ◌+◌, ◌*◌, ◌≤◌, ◌<◌, length, get_or, ℤ}
+use Rattle.std.specs.Prelude.{◌≡◌, true, List, ℕ, ◌+◌, ◌*◌, ◌≤◌, ◌<◌, length, get_or, ℤ, Ok}
 use Rattle.set_members.specs.Sets.{holds}
 use Rattle.fraction.specs.declared.Fraction.{Fraction}
 use Rattle.fraction.specs.Exact.{ℚ}
+use Rattle.answer.specs.declared.Reason.{Reason}
 use Rattle.fraction.specs.Made.{Made, made}
 use Rattle.fraction_reduce.specs.Values.{Good}
 use Rattle.rules_problem.specs.declared.Kind.{Kind}
 use Rattle.rules_run.specs.Row.{TERMS, COLUMNS, PLACES, row}
 use Rattle.rules_run.specs.Build.{alone, built_column}
-use Rattle.run_table.specs.declared.Step.{Step}
-use Rattle.run_table.specs.declared.Step.TheVariants.{Done}
+use Rattle.run_table.specs.Step.{Step}
 use Rattle.run_table.specs.Held.{held_at, row_at, table_at, SoundTo, stepped}
 use Rattle.run_table.specs.Lists.{Lists}
 use Rattle.run_table.specs.Loop.{Kept, RowMade}
@@ -22,7 +22,7 @@ use Rattle.run_build_row.specs.Buildable.{InputsEarlier, Buildable, FactorOf, Co
 use Rattle.run_build_row.specs.Sparse.{Covered, Blank}
 
 -- column c of row t as the rule makes it of the rows before it
-abbrev pub column_built : (kind : Kind) → (t : ℕ) → Lists → (c : ℕ) → Made ℕ ℚ
+abbrev pub column_built : (kind : Kind) → (t : ℕ) → Lists → (c : ℕ) → Made Reason ℚ
 column_built kind t l c = built_column (table_at t l.nums l.dens) t kind c
 
 -- the fraction that stands in column c of row t
@@ -97,7 +97,7 @@ pub record Joinable (kind : Kind) (factor : Fraction) (t columns : ℕ) (l : Lis
 pub record RowBuilt (kind : Kind) (t : ℕ) (step : Step) (nums₀ dens₀ nums dens : List ℤ) : Type 0 where
   pub ends : row (built_column (table_at t nums₀ dens₀) t kind) ≡ stepped step (row_at nums dens (COLUMNS * t))
   pub kept : Kept (COLUMNS * t) (COLUMNS * t + COLUMNS) nums₀ dens₀ nums dens
-  pub sound : step ≡ Done → SoundTo (COLUMNS * (t + 1)) nums dens
+  pub sound : step ≡ Ok tt → SoundTo (COLUMNS * (t + 1)) nums dens
 
 -- It is built within the set.
 pub record Makes (kind : Kind) (t columns : ℕ) (step : Step) (old new : Lists) : Type 0 where

@@ -3,6 +3,7 @@
 use Rattle.std.specs.Prelude.{◌≡◌, Bool, false, ◌||◌, List, ℕ, ◌+◌, ◌*◌, ◌<◌, eqb, get_or, ℤ, pos}
 use Rattle.set_members.specs.Sets.{holds}
 use Rattle.fraction.specs.Exact.{ℚ, zero_ℚ}
+use Rattle.answer.specs.declared.Reason.{Reason}
 use Rattle.fraction.specs.Made.{Made, made}
 use Rattle.rules_problem.specs.declared.Kind.{Kind}
 use Rattle.rules_problem.specs.declared.Kind.TheVariants.{Variable, Constant, Gain, Sum, Difference, Lookup1, Lookup2, Lookup3}
@@ -22,7 +23,7 @@ may_hold sets own (Lookup2 symbol first second) c = eqb c own
 may_hold sets own (Lookup3 symbol first second third) c = eqb c own
 
 -- The rule makes 0 of each term's column that is not in the set.
-pub record Covered (columns : ℕ) (rule : ℕ → Made ℕ ℚ) : Type 0 where
+pub record Covered (columns : ℕ) (rule : ℕ → Made Reason ℚ) : Type 0 where
   pub zero : (c : ℕ) → c < TERMS → holds columns c ≡ false → rule c ≡ made zero_ℚ
 
 -- Row t holds 0/1 in every column.

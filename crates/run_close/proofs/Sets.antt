@@ -30,7 +30,8 @@ use Rattle.run_table.specs.Work.{Work, with_sets, table_of, Rows, Serving}
 use Rattle.run_due_pair.proofs.Heads.{due_heads}
 use Rattle.run_due_pair.proofs.Twins.{rows_kept, shut_kept}
 use Rattle.run_due_pair.proofs.Woken.{linked_kept, stirred_finds}
-use Rattle.run_merge.specs.declared.Merged.{Merged}
+use Rattle.run_merge.specs.declared.Halt.{Halt}
+use Rattle.std.specs.Prelude.{Result}
 use Rattle.run_merge.specs.Contract.{Hints, Left}
 use Rattle.run_close.specs.Woken.{Woken}
 
@@ -49,7 +50,7 @@ serves ready watched = record { rows = ready.rows; notes = ready.notes; linked =
 
 module _ {n : ℕ} {heads inputs : List ℕ} {w : Work} (ready : Ready n heads inputs w) where
   -- A merge keeps the links, and notes the columns of the rows that it changes.
-  pub ready_merged : {r : Merged} {new : Work} → Left n r w new → Hints n w new → Ready n heads inputs new
+  pub ready_merged : {r : Result ℕ Halt} {new : Work} → Left n r w new → Hints n w new → Ready n heads inputs new
   ready_merged left hints =
       let rows = ready.rows in
       let kept = left.kept in

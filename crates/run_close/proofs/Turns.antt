@@ -1,5 +1,9 @@
 -- Closing, turn by turn.
 -- Main results: `closing_idle`, `closing_starts`, `closing_ends`, `closing_searches`, `closing_over`, `pair_below`, `closing_merges`, `closing_merged`. Assume nothing.
+use Rattle.std.specs.Prelude.{Result, Err, Ok, Some}
+use Rattle.std.proofs.lemmas.Result.{IfOk-at_ok}
+use Rattle.run_merge.specs.declared.Halt.{Halt}
+use Rattle.run_merge.specs.declared.Halt.TheVariants.{Contradiction, Refused}
 use mathlib.Core.Path.{◌≡◌, refl, sym, ap, ◌∙◌, subst}
 use mathlib.Core.Logic.{◌≢◌, inl, inr}
 use mathlib.Core.Bool.{not, ◌&&◌, false≢true}
@@ -24,31 +28,28 @@ use Rattle.run_table.specs.Loop.{Kept}
 use Rattle.run_table.specs.Sets.{RIGHTS, pending_of, open_of, Looked}
 use Rattle.run_table.specs.Work.{Work, with_sets, table_of, Serving, Resting}
 use Rattle.run_table.proofs.Columns.{kept_itself, kept_then}
-use Rattle.run_due_pair.specs.Found.{PairBelow, pair_of}
+use Rattle.run_due_pair.specs.declared.Pair.{Pair as Found}
+use Rattle.run_due_pair.specs.Found.{Due, PairBelow, pair_of}
 use Rattle.run_due_pair.specs.Contract.{Searchable, FindsDue}
 use Rattle.run_due_pair.proofs.Passed.{none_waiting}
+use Rattle.run_due_pair.proofs.Steps.{no_pair}
 use Rattle.run_due_pair.proofs.Woken.{closed_sleeps, pending_awake}
-use Rattle.run_due_pair.specs.declared.Due.{Due}
-use Rattle.run_due_pair.specs.declared.Due.TheVariants.{Pair as Found, NoneDue}
-use Rattle.run_merge.specs.Outcome.{merged, Unstopped}
+use Rattle.run_merge.specs.Outcome.{merged}
 use Rattle.run_merge.proofs.Steps.{merges_by_number}
 use Rattle.run_merge.specs.Contract.{Mergeable, Hints, state_of, Merges}
-use Rattle.run_merge.specs.declared.Merged.{Merged}
-use Rattle.run_merge.specs.declared.Merged.TheVariants.{Nothing, Solved, Contradiction as Clash, Refused as Outside}
-use Rattle.run_close.specs.declared.AfterClosing.TheVariants.{Going, Contradiction, Refused}
-use Rattle.run_close.specs.Outcome.{closed, Counted, WhileOpen}
+use Rattle.run_close.specs.Outcome.{closed}
 use Rattle.run_close.specs.Contract.{Closes}
 use Rattle.run_close.specs.Woken.{Woken}
 use Rattle.run_close.proofs.Sets.{Ready, ready_of, serves, ready_merged, ready_kept, ready_woken, ready_shut, shut_watched, woken_watched}
 
--- In a loop that closes: what is left to do with the lists and the count gives what closing gives; only the rows of the terms have
--- changed; each unknown solved took a turn; and what has to be looked at waits.
+-- In a loop that closes, after some turns: what is left to do with the lists and the count gives what closing gives; only the rows of the terms
+-- have changed; each unknown solved took a turn; and what has to be looked at waits.
 pub record Closing (n solved : ℕ) (heads inputs : List ℕ) (old : Work) (count turns : ℕ) (w : Work) (waiting : List ℕ) : Type 0 where
   pub rest : (terms : List Term) → Lookups terms n heads inputs
-      → close by_number terms (state_of n old solved) ≡ close_for turns by_number terms (state_of n w count)
+      → close by_number terms (state_of n old solved) ≡ close_for (n + 1 - turns) by_number terms (state_of n w count)
   pub kept : Kept 0 (65 * n) old.nums old.dens w.nums w.dens
   pub size : length w.sets ≡ length old.sets
-  pub counted : count + turns ≤ solved + n + 1
+  pub counted : count ≤ solved + turns
   pub serving : Serving n heads inputs waiting w
   pub sized : length waiting ≡ RIGHTS + 1
 
@@ -59,16 +60,14 @@ turn rank terms state turns pair e =
     ap (λ o. elim o as (λ x. Made Stop State) [ none ↦ made state | some p ↦ merge rank p.left p.right state >>= close_for turns rank terms ]) e
 
 -- What a merge of the pair due leaves, by its answer: the loop goes on or is over.
-pub record Turned (n solved : ℕ) (heads inputs : List ℕ) (old : Work) (count turns : ℕ) (w : Work) (waiting : List ℕ) (answer : Merged) : Type 0 where
-  pub same : answer ≡ Nothing → Closing n solved heads inputs old count turns w waiting
-  pub more : answer ≡ Solved → Closing n solved heads inputs old (count + 1) turns w waiting
-  pub contradicts : answer ≡ Clash → Closes n solved heads inputs Contradiction old w
-  pub refuses : (number : ℕ) → answer ≡ Outside number → Closes n solved heads inputs (Refused number) old w
+pub record Turned (n solved : ℕ) (heads inputs : List ℕ) (old : Work) (count turns : ℕ) (w : Work) (waiting : List ℕ) (answer : Result ℕ Halt) : Type 0 where
+  pub on : (more : ℕ) → answer ≡ Ok more → Closing n solved heads inputs old (count + more) turns w waiting
+  pub stops : (halt : Halt) → answer ≡ Err halt → Closes n solved heads inputs (Err halt) old w
 
 module _ {n : ℕ} (solved : ℕ) {heads inputs : List ℕ} {w : Work} (resting : Resting n heads inputs w) where
   -- Where no lookup is pending, none is due.
-  pub closing_idle : pending_of w.sets ≡ 0 → Closes n solved heads inputs (Going solved) w w
-  unfolding close closed Counted WhileOpen
+  pub closing_idle : pending_of w.sets ≡ 0 → Closes n solved heads inputs (Ok solved) w w
+  unfolding close closed
   closing_idle asleep =
       record {
         answers = λ terms lookups.
@@ -80,11 +79,11 @@ module _ {n : ℕ} (solved : ℕ) {heads inputs : List ℕ} {w : Work} (resting 
         resting = resting;
       }
 
-  pub closing_starts : (waiting : List ℕ) → length waiting ≡ RIGHTS + 1 → Closing n solved heads inputs w solved (n + 1) w waiting
+  pub closing_starts : (waiting : List ℕ) → length waiting ≡ RIGHTS + 1 → Closing n solved heads inputs w solved 0 w waiting
   unfolding close
   closing_starts waiting sized =
       record {
-        rest = λ terms lookups. let all : suc (length terms) ≡ n + 1 = omega (arith, lookups.count) in rw all;
+        rest = λ terms lookups. let all : suc (length terms) ≡ n + 1 - 0 = omega (arith, lookups.count) in rw all;
         kept = kept_itself _ _ w.nums w.dens;
         size = refl;
         counted = omega arith;
@@ -100,10 +99,10 @@ module _ {n : ℕ} (solved : ℕ) {heads inputs : List ℕ} {w : Work} (resting 
 
 module _ {n solved : ℕ} {heads inputs : List ℕ} {old : Work} {count turns : ℕ} {w : Work} {waiting : List ℕ} (closing : Closing n solved heads inputs old count turns w waiting) where
   -- The budget is spent: every lookup is to be looked at again.
-  pub closing_ends : turns ≤ 0 → Closes n solved heads inputs (Going count) old (with_sets w (set w.sets 192 18446744073709551615))
-  unfolding close_for closed Counted WhileOpen pending_of open_of
+  pub closing_ends : turns ≡ n + 1 → Closes n solved heads inputs (Ok count) old (with_sets w (set w.sets 192 18446744073709551615))
+  unfolding close_for closed pending_of open_of
   closing_ends spent =
-      let none_left : turns ≡ 0 = omega arith in
+      let none_left : n + 1 - turns ≡ 0 = omega arith in
       let all : ℕ = 18446744073709551615 in
       let sets = w.sets in
       let place : 192 < length sets = omega (arith, closing.serving.rows.size) in
@@ -131,45 +130,46 @@ module _ {n solved : ℕ} {heads inputs : List ℕ} {old : Work} {count turns : 
           asleep = woken.asleep;
         }
 
-    module _ {waiting₂ : List ℕ} {found : Due} (finds : FindsDue n heads inputs waiting₂ (with_sets w sets₁) found) (some_left : 0 < turns) where
-      one_more : turns ≡ suc (turns - 1)
+    module _ {waiting₂ : List ℕ} {found : Due} (finds : FindsDue n heads inputs waiting₂ (with_sets w sets₁) found) (some_left : turns < n + 1) where
+      one_more : n + 1 - turns ≡ suc (n + 1 - (turns + 1))
       one_more = omega arith
 
-      step : (terms : List Term) (lookups : Lookups terms n heads inputs) → (pair : Option Pair) → pair_of found ≡ pair → close by_number terms (state_of n old solved) ≡ elim pair [ none ↦ made (state_of n w count) | some p ↦ merge by_number p.left p.right (state_of n w count) >>= close_for (turns - 1) by_number terms ]
+      step : (terms : List Term) (lookups : Lookups terms n heads inputs) → (pair : Option Pair) → pair_of found ≡ pair → close by_number terms (state_of n old solved) ≡ elim pair [ none ↦ made (state_of n w count) | some p ↦ merge by_number p.left p.right (state_of n w count) >>= close_for (n + 1 - (turns + 1)) by_number terms ]
       step terms lookups pair e =
           closing.rest terms lookups
           ∙ ap (λ k. close_for k by_number terms (state_of n w count)) one_more
-          ∙ turn by_number terms (state_of n w count) (turns - 1) pair (finds.pair terms lookups ∙ e)
+          ∙ turn by_number terms (state_of n w count) (n + 1 - (turns + 1)) pair (finds.pair terms lookups ∙ e)
 
       -- No pair is due.
-      pub closing_over : found ≡ NoneDue → Closes n solved heads inputs (Going count) old (with_sets w sets₁)
-      unfolding pair_of closed Counted WhileOpen
-      closing_over e =
+      pub closing_over : ((pair : Found) → found ≡ Some pair → ⊥) → Closes n solved heads inputs (Ok count) old (with_sets w sets₁)
+      unfolding pair_of closed
+      closing_over none_found =
+          let none_due = no_pair found none_found in
           record {
-            answers = λ terms lookups. step terms lookups none (ap pair_of e);
+            answers = λ terms lookups. step terms lookups none none_due;
             kept = closing.kept;
             sound = closing.serving.rows.sound;
             size = woken.same_length ∙ closing.size;
             counted = omega (arith, closing.counted);
-            resting = serves served λ terms lookups. closed_sleeps lookups.count (finds.pair terms lookups ∙ ap pair_of e) (finds.serving.watched terms lookups);
+            resting = serves served λ terms lookups. closed_sleeps lookups.count (finds.pair terms lookups ∙ none_due) (finds.serving.watched terms lookups);
           }
 
       -- The pair due is merged, its right side shut.
-      module _ {left right : ℕ} (is-pair : found ≡ Found left right) (shut : ℕ) where
-        pub pair_below : (left < right) × (right < n)
+      module _ {pair : Found} (is-pair : found ≡ Some pair) (shut : ℕ) where
+        pub pair_below : (pair.left < pair.right) × (pair.right < n)
         unfolding PairBelow
         pair_below = subst (PairBelow n) is-pair finds.below
 
-        pub closing_merges : Mergeable n left right (with_sets w (set sets₁ 193 shut))
+        pub closing_merges : Mergeable n pair.left pair.right (with_sets w (set sets₁ 193 shut))
         closing_merges = let order = pair_below in record { rows = (ready_shut served shut).rows; left = omega arith; right = omega arith }
 
-        module _ (told : (k : ℕ) → holds shut k ≡ (not (eqb k right) && holds (open_of sets₁) k))
-            {answer : Merged} {new : Work} (merges : Merges n left right 0 answer (with_sets w (set sets₁ 193 shut)) new) (sized : length waiting₂ ≡ RIGHTS + 1) where
-          after : (to : Merged) → answer ≡ to → (terms : List Term) → Lookups terms n heads inputs → close by_number terms (state_of n old solved) ≡ merged to count (table_of n new) >>= close_for (turns - 1) by_number terms
+        module _ (told : (k : ℕ) → holds shut k ≡ (not (eqb k pair.right) && holds (open_of sets₁) k))
+            {answer : Result ℕ Halt} {new : Work} (merges : Merges n pair.left pair.right 0 answer (with_sets w (set sets₁ 193 shut)) new) (same_length : length waiting₂ ≡ length waiting₁) where
+          after : (to : Result ℕ Halt) → answer ≡ to → (terms : List Term) → Lookups terms n heads inputs → close by_number terms (state_of n old solved) ≡ merged to count (table_of n new) >>= close_for (n + 1 - (turns + 1)) by_number terms
           unfolding pair_of
           after to is terms lookups =
-              step terms lookups (some (record { left = left; right = right })) (ap pair_of is-pair)
-              ∙ ap (λ m. m >>= close_for (turns - 1) by_number terms) (merges_by_number merges count ∙ ap (λ m. merged m count (table_of n new)) is)
+              step terms lookups (some (record { left = pair.left; right = pair.right })) (ap pair_of is-pair)
+              ∙ ap (λ m. m >>= close_for (n + 1 - (turns + 1)) by_number terms) (merges_by_number merges count ∙ ap (λ m. merged m count (table_of n new)) is)
 
           kept_on : Kept 0 (65 * n) old.nums old.dens new.nums new.dens
           kept_on = kept_then closing.kept merges.left.kept
@@ -177,33 +177,25 @@ module _ {n solved : ℕ} {heads inputs : List ℕ} {old : Work} {count turns : 
           size_on : length new.sets ≡ length old.sets
           size_on = merges.left.size ∙ length-set sets₁ 193 shut ∙ woken.same_length ∙ closing.size
 
-          -- the loop goes on with what a merge leaves that has not stopped
-          on : (to : Merged) (more : ℕ) → answer ≡ to → merged to count (table_of n new) ≡ made (state_of n new more) → more + (turns - 1) ≤ solved + n + 1 → Hints n (with_sets w (set sets₁ 193 shut)) new → Closing n solved heads inputs old more (turns - 1) new waiting₂
-          unfolding pair_of ◌>>=◌
-          on to more is goes_on counted hints =
-              record {
-                rest = λ terms lookups. after to is terms lookups ∙ ap (λ m. m >>= close_for (turns - 1) by_number terms) goes_on;
-                kept = kept_on;
-                size = size_on;
-                counted = counted;
-                serving = serves (ready_merged (ready_shut served shut) merges.left hints) λ terms lookups.
-                    shut_watched left right count more lookups served.notes.below (ready_shut served shut).linked hints.stirred (merges_by_number merges count ∙ ap (λ m. merged m count (table_of n new)) is ∙ goes_on)
-                    waiting₂ shut served.rows.size refl told (due_some terms (table_of n w) (record { left = left; right = right }) (finds.pair terms lookups ∙ ap pair_of is-pair)) (finds.serving.watched terms lookups);
-                sized = sized;
-              }
-
-          pub closing_merged : Turned n solved heads inputs old count (turns - 1) new waiting₂ answer
-          unfolding merged ◌>>=◌ closed Counted Unstopped WhileOpen
-          closing_merged =
-              let noted : (to : Merged) → answer ≡ to → Unstopped to (Hints n (with_sets w (set sets₁ 193 shut)) new) =
-              λ to is. subst (λ a. Unstopped a (Hints n (with_sets w (set sets₁ 193 shut)) new)) is merges.left.hints
-              in
-              record {
-                same = λ is. on Nothing count is refl (omega (arith, closing.counted)) (noted Nothing is);
-                more = λ is. on Solved (count + 1) is one (omega (arith, closing.counted)) (noted Solved is);
-                contradicts = λ is. record { answers = after Clash is; kept = kept_on; sound = merges.left.sound; size = size_on; counted = tt; resting = tt };
-                refuses = λ number is. record { answers = after (Outside number) is; kept = kept_on; sound = merges.left.sound; size = size_on; counted = tt; resting = tt };
-              }
+          pub closing_merged : Turned n solved heads inputs old count (turns + 1) new waiting₂ answer
+          unfolding pair_of merged ◌>>=◌ closed
+          closing_merged = record {
+            on = λ more is.
+                let few : more ≤ 1 = IfOk-at_ok (λ m. m ≤ 1) is merges.left.one in
+                let hints : Hints n (with_sets w (set sets₁ 193 shut)) new = IfOk-at_ok (λ m. Hints n (with_sets w (set sets₁ 193 shut)) new) is merges.left.hints in
+                record {
+                  rest = after (Ok more) is;
+                  kept = kept_on;
+                  size = size_on;
+                  counted = omega (arith, closing.counted);
+                  serving = serves (ready_merged (ready_shut served shut) merges.left hints) λ terms lookups.
+                      shut_watched pair.left pair.right count (count + more) lookups served.notes.below (ready_shut served shut).linked hints.stirred (merges_by_number merges count ∙ ap (λ m. merged m count (table_of n new)) is)
+                      waiting₂ shut served.rows.size refl told (due_some terms (table_of n w) (record { left = pair.left; right = pair.right }) (finds.pair terms lookups ∙ ap pair_of is-pair)) (finds.serving.watched terms lookups);
+                  sized = omega (arith, same_length, woken.grown.same_length, closing.sized);
+                };
+            stops = λ halt is. record { answers = λ terms lookups. after (Err halt) is terms lookups ∙ stopped_so halt terms; kept = kept_on; sound = merges.left.sound; size = size_on; counted = tt; resting = tt };
+          }
             where
-              one : merged Solved count (table_of n new) ≡ made (state_of n new (count + 1))
-              one = let more : suc count ≡ count + 1 = omega arith in ap (λ k. made (state_of n new k)) more
+              stopped_so : (halt : Halt) (terms : List Term) → merged (Err halt) count (table_of n new) >>= close_for (n + 1 - (turns + 1)) by_number terms ≡ closed (Err halt) (table_of n new)
+              stopped_so Contradiction terms = refl
+              stopped_so (Refused why) terms = refl

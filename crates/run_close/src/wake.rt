@@ -14,11 +14,11 @@ fn candidates(sets: &[u64], j: usize) -> u64
     ensures { (i : ℕ) → holds result i ≡ is_woken sets.now i j }
 {
     let earlier = set_members::common(sets[EARLIER + j], sets[OPEN]);
-    let pending = sets[PENDING];
-    if set_members::has(pending, j) {
-        return earlier;
+    if set_members::has(sets[PENDING], j) {
+        earlier
+    } else {
+        set_members::common(earlier, sets[PENDING])
     }
-    set_members::common(earlier, pending)
 }
 
 // Of right side j, every pair with a pending side waits from now on.

@@ -3,9 +3,10 @@
 use Rattle.std.specs.Prelude.{ℕ}
 use Rattle.fraction.specs.Exact.{ℚ}
 use Rattle.fraction.specs.Limits.{minus}
+use Rattle.answer.specs.declared.Reason.{Reason}
 use Rattle.fraction.specs.Made.{Made}
 use Rattle.rules_run.specs.Row.{COLUMNS, column}
-use Rattle.run_table.specs.declared.Step.{Step}
+use Rattle.run_table.specs.Step.{Step}
 use Rattle.run_table.specs.Lists.{Lists, row_in, RowWithin}
 use Rattle.run_table.specs.Loop.{RowMade}
 use Rattle.run_table.specs.Sets.{Within}
@@ -17,7 +18,7 @@ pub record Subtractable (left right set : ℕ) (rows d : Lists) : Type 0 where
   pub zeros : RowWithin 0 0 d
 
 -- 01, Merge: column c of "the difference of the two rows"
-abbrev pub apart : (left right : ℕ) (rows : Lists) → (c : ℕ) → Made ℕ ℚ
+abbrev pub apart : (left right : ℕ) (rows : Lists) → (c : ℕ) → Made Reason ℚ
 apart left right rows c = minus (column (row_in rows left) c) (column (row_in rows right) c)
 
 -- The row of zeros becomes the difference, or a column is refused; however it ends, a term's column outside the set holds 0.

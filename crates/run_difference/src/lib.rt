@@ -5,9 +5,8 @@
 ghost use Rattle.run_table.specs.Lists.{both, lists, at_entry};
 ghost use Rattle.run_difference.specs.Contract.{Subtractable, Subtracts};
 
-use fraction_reduce::Tested;
+use answer::Reason;
 use rules_problem::COLUMNS;
-use run_table::Step;
 
 // 01, Merge: "take the difference of the two rows". Its columns are made and tested in rising order; where both rows hold 0, so does it.
 pub fn difference(
@@ -18,7 +17,7 @@ pub fn difference(
     set: u64,
     d_nums: &mut [i32],
     d_dens: &mut [i32],
-) -> Step
+) -> Result<(), Reason>
     requires { Subtractable left right set (lists nums dens) (both d_nums.old d_dens.old) }
     ensures { Subtracts left right set result (at_entry nums dens) (both d_nums.old d_dens.old) (both d_nums.new d_dens.new) }
 {
@@ -28,14 +27,10 @@ pub fn difference(
         let at = set_extremes::first(rest);
         let a = run_table::get(nums, dens, left + at);
         let b = run_table::get(nums, dens, right + at);
-        match fraction_sum::difference(a, b) {
-            Tested::Fits(f) => {
-                run_table::put(d_nums, d_dens, at, f);
-                rest = set_extremes::rest(rest);
-                c = at + 1;
-            }
-            Tested::Refused(number) => return Step::Refused(number),
-        }
+        let f = fraction_sum::difference(a, b)?;
+        run_table::put(d_nums, d_dens, at, f);
+        rest = set_extremes::rest(rest);
+        c = at + 1;
     }
-    Step::Done
+    Ok(())
 }

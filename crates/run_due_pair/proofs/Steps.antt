@@ -1,14 +1,13 @@
 -- The functions of the search, step by step: what each comes to, by what the functions that it calls answer.
--- Main results: of one pair `no_head`, `heads_told`, `inputs_comparable`, `first_differs`, `second_differs`, `third_decides`, `unlike_pair`, `inputs_differ`,
+-- Main results: of one pair `no_head`, `heads_told`, `inputs_comparable`, `unlike_pair`, `inputs_differ`,
 -- `rows_decide`; of one right side `Choosing`, `choosing_starts`, `choosing_found`, `choosing_less`, `choosing_on`, `choosing_over`; of all of them `Searching`,
--- `searching_starts`, `searching_found`, `searching_on`, `searching_over`. Assume nothing.
+-- `no_pair`, `searching_starts`, `searching_found`, `searching_on`, `searching_over`; `no_pair`. Assume nothing.
 use mathlib.Core.Path.{◌≡◌, refl, sym, ap, ap₂, ◌∙◌, subst}
 use mathlib.Core.Bool.{Bool, true, false, not, ◌&&◌, cond, false≢true, and-eq-true_iff}
 use mathlib.Core.List.{List}
 use mathlib.Core.Option.{some, none}
 use Prim.Native.Nat.{ℕ, ◌+◌, ◌-◌, ◌*◌, ◌<◌, ◌≤◌}
 use native.Mathlib.Omega.{arith}
-use borrow.Author.Tests.{not-true, not-false}
 use lib.Dec.{eqb}
 use lib.ListN.{length, get_or}
 use Rattle.set_members.specs.Sets.{holds}
@@ -23,17 +22,17 @@ use Rattle.run_table.specs.Notes.{Lookups}
 use Rattle.run_table.specs.Sets.{RIGHTS, open_of, Waits, Watched}
 use Rattle.run_table.specs.Work.{Work, table_of, Serving}
 use Rattle.run_equal_rows.specs.Contract.{Comparable}
-use Rattle.run_due_pair.specs.declared.Due.{Due}
-use Rattle.run_due_pair.specs.declared.Due.TheVariants.{Pair as Found, NoneDue}
-use Rattle.run_due_pair.specs.Found.{same_input, same_inputs, left_for, pair_among, left_among, pair_of, PairBelow, RightPassed}
+use Rattle.std.specs.Prelude.{Some, None}
+use Rattle.run_due_pair.specs.declared.Pair.{Pair as Found}
+use Rattle.run_due_pair.specs.Found.{Due, same_inputs, left_for, pair_among, left_among, pair_of, PairBelow, RightPassed}
 use Rattle.run_due_pair.specs.Contract.{Alike, InputsComparable, PairComparable, TellsDue, OpenWaiting, LeftsSearchable, FindsLeft, Searchable, FindsDue}
 use Rattle.run_due_pair.proofs.Heads.{no_lookup, one_head, due_alike, due_unlike}
 use Rattle.run_due_pair.proofs.Passed.{among_there, among_passed, left_watched, rights_passed, watched_passed}
 use Rattle.run_due_pair.proofs.Search.{first_passed, first_found, first_over, first_skips, first_nowhere, pair_given, among_searched, due_searched}
 
 -- The head 0 is alike no other; any other head is alike the terms that have it.
-pub no_head : {i j : ℕ} {heads : List ℕ} → get_or heads i 0 ≡ 0 → Alike i j heads false
-no_head none-there = record { tells = λ k l left right small small'. sym (no_lookup k l (sym left ∙ none-there)) }
+pub no_head : {i j : ℕ} {heads : List ℕ} → get_or heads i 0 ≡ 0 → Alike i j heads (not (eqb (get_or heads i 0) 0))
+no_head none-there = rw none-there record { tells = λ k l left right small small'. sym (no_lookup k l (sym left ∙ none-there)) }
 
 pub heads_told : {i j : ℕ} {heads : List ℕ} → (get_or heads i 0 ≡ 0 → ⊥) → Alike i j heads (eqb (get_or heads i 0) (get_or heads j 0))
 heads_told some-head = record { tells = λ k l left right small small'. ap₂ eqb left right ∙ one_head k l small small' (λ nothing. some-head (left ∙ nothing)) }
@@ -43,20 +42,6 @@ module _ {n i j : ℕ} {inputs : List ℕ} {w : Work} (asked : InputsComparable 
   pub inputs_comparable : (k : ℕ) → k < 3 → Comparable n (get_or inputs (3 * i + k) 0) (get_or inputs (3 * j + k) 0) w
   inputs_comparable k place = record { rows = asked.rows; left = asked.inputs_below.below i k asked.left place; right = asked.inputs_below.below j k asked.right place }
 
-  module _ (a : Bool) (first-place : a ≡ same_input (table_of n w) inputs i j 0) where
-    pub first_differs : not a ≡ true → false ≡ same_inputs (table_of n w) inputs i j
-    unfolding same_inputs
-    first_differs other = rw (← first-place, not-true a other)
-
-    module _ (same : not a ≡ false) (b : Bool) (second-place : b ≡ same_input (table_of n w) inputs i j 1) where
-      pub second_differs : not b ≡ true → false ≡ same_inputs (table_of n w) inputs i j
-      unfolding same_inputs
-      second_differs other = rw (← first-place, not-false a same, ← second-place, not-true b other)
-
-      pub third_decides : not b ≡ false → {c : Bool} → c ≡ same_input (table_of n w) inputs i j 2 → c ≡ same_inputs (table_of n w) inputs i j
-      unfolding same_inputs
-      third_decides same' third-place = rw (← first-place, not-false a same, ← second-place, not-false b same') third-place
-
 -- One pair: the function, the inputs, the rows of their own.
 module _ {n i j : ℕ} {heads inputs : List ℕ} {w : Work} (asked : PairComparable n i j heads inputs w) (a : Bool) (function : Alike i j heads a) where
   alike_is : (terms : List Term) → Lookups terms n heads inputs → a ≡ alike (kind_at terms i) (kind_at terms j)
@@ -64,21 +49,21 @@ module _ {n i j : ℕ} {heads inputs : List ℕ} {w : Work} (asked : PairCompara
       let left : i < n = omega (arith, asked.order, asked.right) in
       function.tells (kind_at terms i) (kind_at terms j) (lookups.calls.head i left) (lookups.calls.head j asked.right) (lookups.symbols i left) (lookups.symbols j asked.right)
 
-  pub unlike_pair : not a ≡ true → TellsDue n i j heads inputs w false
+  pub unlike_pair : a ≡ false → TellsDue n i j heads inputs w false
   unlike_pair other =
-      record { tells = λ terms lookups. sym (due_unlike terms n heads inputs lookups (table_of n w) i j (omega (arith, asked.order, asked.right)) asked.right (sym (alike_is terms lookups) ∙ not-true a other)) }
+      record { tells = λ terms lookups. sym (due_unlike terms n heads inputs lookups (table_of n w) i j (omega (arith, asked.order, asked.right)) asked.right (sym (alike_is terms lookups) ∙ other)) }
 
-  module _ (similar : not a ≡ false) (b : Bool) (equal : b ≡ same_inputs (table_of n w) inputs i j) where
+  module _ (similar : a ≡ true) (b : Bool) (equal : b ≡ same_inputs (table_of n w) inputs i j) where
     told : (terms : List Term) → Lookups terms n heads inputs → {test : Bool} → b && not (same_row (table_of n w) i j) ≡ test → test ≡ is_due terms (table_of n w) i j
     told terms lookups is =
-        sym (due_alike terms n heads inputs lookups (table_of n w) i j (omega (arith, asked.order, asked.right)) asked.right (sym (alike_is terms lookups) ∙ not-false a similar)
+        sym (due_alike terms n heads inputs lookups (table_of n w) i j (omega (arith, asked.order, asked.right)) asked.right (sym (alike_is terms lookups) ∙ similar)
         ∙ ap (λ x. x && not (same_row (table_of n w) i j)) (sym equal) ∙ is)
 
-    pub inputs_differ : not b ≡ true → TellsDue n i j heads inputs w false
-    inputs_differ other = record { tells = λ terms lookups. told terms lookups (ap (λ x. x && not (same_row (table_of n w) i j)) (not-true b other)) }
+    pub inputs_differ : b ≡ false → TellsDue n i j heads inputs w false
+    inputs_differ other = record { tells = λ terms lookups. told terms lookups (ap (λ x. x && not (same_row (table_of n w) i j)) other) }
 
-    pub rows_decide : not b ≡ false → {own : Bool} → own ≡ same_row (table_of n w) i j → TellsDue n i j heads inputs w (not own)
-    rows_decide same own_is = record { tells = λ terms lookups. told terms lookups (ap₂ (λ x y. x && not y) (not-false b same) (sym own_is)) }
+    pub rows_decide : b ≡ true → {own : Bool} → own ≡ same_row (table_of n w) i j → TellsDue n i j heads inputs w (not own)
+    rows_decide same own_is = record { tells = λ terms lookups. told terms lookups (ap₂ (λ x y. x && not y) same (sym own_is)) }
 
 -- In the loop over the left sides of j: those from i on are left, and give what all of them give.
 pub record Choosing (n lefts j : ℕ) (heads inputs : List ℕ) (w : Work) (rest i : ℕ) : Type 0 where
@@ -100,7 +85,7 @@ module _ {n j : ℕ} {heads inputs : List ℕ} {w : Work} (asked : LeftsSearchab
 
   module _ {rest i : ℕ} (choosing : Choosing n lefts j heads inputs w rest i) where
     -- None of them is due.
-    pub choosing_over : j ≤ i → FindsLeft n lefts j heads inputs w NoneDue
+    pub choosing_over : j ≤ i → FindsLeft n lefts j heads inputs w None
     unfolding pair_of PairBelow
     choosing_over over = record { pair = λ terms lookups. choosing.same terms lookups ∙ first_over _ j i over; below = tt }
 
@@ -112,7 +97,7 @@ module _ {n j : ℕ} {heads inputs : List ℕ} {w : Work} (asked : LeftsSearchab
           ∙ pair_given terms (table_of n w) j i r (tells.tells terms lookups)
 
       -- This one is,
-      pub choosing_found : r ≡ true → FindsLeft n lefts j heads inputs w (Found i j)
+      pub choosing_found : r ≡ true → FindsLeft n lefts j heads inputs w (Some (record { left = i; right = j }))
       unfolding pair_of PairBelow
       choosing_found is =
           record {
@@ -142,6 +127,12 @@ module _ {n j : ℕ} {heads inputs : List ℕ} {w : Work} (asked : LeftsSearchab
                   ∙ on_from onward terms;
             }
 
+-- A search that finds no pair finds nothing.
+pub no_pair : (r : Due) → ((pair : Found) → r ≡ Some pair → ⊥) → pair_of r ≡ none
+unfolding pair_of
+no_pair None none_found = refl
+no_pair (Some pair) none_found = absurd (none_found pair refl)
+
 -- In the loop over the right sides: none before j has a pair due, and the sets serve with what waits now, which is no more than at the start.
 pub record Searching (n : ℕ) (heads inputs waiting₀ : List ℕ) (w : Work) (waiting : List ℕ) (j : ℕ) : Type 0 where
   pub same_length : length waiting ≡ length waiting₀
@@ -169,7 +160,7 @@ module _ {n : ℕ} {heads inputs waiting₀ : List ℕ} {w : Work} (asked : Sear
     served = let serving = asked.serving in record { rows = serving.rows; notes = serving.notes; linked = serving.linked; watched = searching.watched }
 
     -- No right side is left.
-    pub searching_over : n ≤ j → FindsDue n heads inputs waiting w NoneDue
+    pub searching_over : n ≤ j → FindsDue n heads inputs waiting w None
     unfolding pair_of PairBelow
     searching_over over =
         record {
@@ -185,7 +176,7 @@ module _ {n : ℕ} {heads inputs waiting₀ : List ℕ} {w : Work} (asked : Sear
           left_watched (searching.watched terms lookups) asked.asleep lefts j below (λ i left right waits. lefts-open.inside i ∙ ap₂ ◌&&◌ waits.left left) (λ k low. searching.none_yet terms lookups k low (omega arith))
           ∙ finds.pair terms lookups
 
-      pub searching_found : {left right : ℕ} → r ≡ Found left right → FindsDue n heads inputs waiting w (Found left right)
+      pub searching_found : {pair : Found} → r ≡ Some pair → FindsDue n heads inputs waiting w (Some pair)
       unfolding pair_of
       searching_found is =
           record {
@@ -198,13 +189,12 @@ module _ {n : ℕ} {heads inputs waiting₀ : List ℕ} {w : Work} (asked : Sear
           }
 
       -- This one has no pair due: none has to wait for it any more.
-      pub searching_on : r ≡ NoneDue → {waiting' : List ℕ} → RightPassed j waiting waiting' → {rights : ℕ} → OpenWaiting RIGHTS waiting₀ w.sets rights → {j' : ℕ} → Next rights (j + 1) j' → Searching n heads inputs waiting₀ w waiting' j'
-      unfolding pair_of
-      searching_on is {waiting'} passed rights-open next =
+      pub searching_on : ((pair : Found) → r ≡ Some pair → ⊥) → {waiting' : List ℕ} → RightPassed j waiting waiting' → {rights : ℕ} → OpenWaiting RIGHTS waiting₀ w.sets rights → {j' : ℕ} → Next rights (j + 1) j' → Searching n heads inputs waiting₀ w waiting' j'
+      searching_on none_found {waiting'} passed rights-open next =
           let fewer : (k : ℕ) → holds (get_or waiting' RIGHTS 0) k ≡ true → holds (get_or waiting₀ RIGHTS 0) k ≡ true =
           λ k inside. searching.fewer k ((and-eq-true_iff (not (eqb k j)) (holds (get_or waiting RIGHTS 0) k)).0 (sym (passed.rights k) ∙ inside)).1
           in
-          let none_here : (terms : List Term) → Lookups terms n heads inputs → left_for terms (table_of n w) j ≡ none = λ terms lookups. left_is terms lookups ∙ ap pair_of is in
+          let none_here : (terms : List Term) → Lookups terms n heads inputs → left_for terms (table_of n w) j ≡ none = λ terms lookups. left_is terms lookups ∙ no_pair r none_found in
           let later : (terms : List Term) → Lookups terms n heads inputs → Watched waiting' terms n (table_of n w) w.sets =
           λ terms lookups. watched_passed (searching.watched terms lookups) j asked.serving.rows.few passed (none_here terms lookups)
           in

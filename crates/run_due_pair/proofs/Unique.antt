@@ -4,20 +4,19 @@ use mathlib.Core.Path.{◌≡◌, refl, sym, ap, ◌∙◌}
 use mathlib.Core.Option.{Option, some, none}
 use Rattle.unique.specs.Twice.{TwiceAsked}
 use Rattle.rules_problem.specs.Problem.{Pair}
-use Rattle.run_due_pair.specs.declared.Due.{Due}
-use Rattle.run_due_pair.specs.declared.Due.TheVariants.{Pair as Found, NoneDue}
-use Rattle.run_due_pair.specs.Found.{pair_of}
+use Rattle.std.specs.Prelude.{Some, None}
+use Rattle.run_due_pair.specs.Found.{Due, pair_of}
 use Rattle.run_due_pair.proofs.find_due.Kinds.{ps, r}
 use Rattle.run_due_pair.proofs.find_due.Reads.{Pre, Post}
 
 due_of : Option Pair → Due
-due_of none = NoneDue
-due_of (some pair) = Found pair.left pair.right
+due_of none = None
+due_of (some pair) = Some (record { left = pair.left; right = pair.right })
 
 due_back : (r : Due) → due_of (pair_of r) ≡ r
 unfolding pair_of due_of
-due_back (Found left right) = refl
-due_back NoneDue = refl
+due_back (Some pair) = refl
+due_back None = refl
 
 -- Said of the contract itself, as the toolchain reads it. The pairs that wait afterwards are hints, of which more would do.
 pub find_due_unique : TwiceAsked ps r Pre Post λ κs a x y end end'. x ≡ y

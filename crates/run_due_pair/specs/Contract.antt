@@ -11,8 +11,7 @@ use Rattle.rules_run.specs.Close.{is_due, due}
 use Rattle.run_table.specs.Notes.{head_of, symbol_of, Lookups, InputsBelow, Notes}
 use Rattle.run_table.specs.Sets.{RIGHTS, pending_of, open_of}
 use Rattle.run_table.specs.Work.{Work, table_of, Rows, Serving}
-use Rattle.run_due_pair.specs.declared.Due.{Due}
-use Rattle.run_due_pair.specs.Found.{left_among, pair_of, PairBelow}
+use Rattle.run_due_pair.specs.Found.{left_among, Due, pair_of, PairBelow}
 
 -- The heads of terms i and j tell whether they are lookups of one function, whatever kinds the heads are of.
 pub record Alike (i j : ℕ) (heads : List ℕ) (r : Bool) : Type 0 where

@@ -1,6 +1,6 @@
 -- The search for the pair due, on lookups as numbers.
--- Main definitions: `same_inputs`, `left_for`, `left_among`, `pair_of`, `PairBelow`, `RightPassed`. Assume nothing.
-use Rattle.std.specs.Prelude.{◌≡◌, ◌≢◌, Bool, not, cond, ◌&&◌, List, ℕ, ◌+◌, ◌*◌, ◌<◌, eqb, length, get_or}
+-- Main definitions: `same_inputs`, `left_for`, `left_among`, `Due`, `pair_of`, `PairBelow`, `RightPassed`. Assume nothing.
+use Rattle.std.specs.Prelude.{◌≡◌, ◌≢◌, Bool, not, cond, ◌&&◌, List, ℕ, ◌+◌, ◌*◌, ◌<◌, eqb, length, get_or, Option as Optional, Some, None}
 use Rattle.std.proofs.Math.Option.{Option, some, none}
 use Rattle.set_members.specs.Sets.{holds}
 use Rattle.rules_problem.specs.declared.Term.{Term}
@@ -8,8 +8,7 @@ use Rattle.rules_problem.specs.Problem.{Pair}
 use Rattle.rules_run.specs.Row.{Table, same_row}
 use Rattle.rules_run.specs.Close.{is_due, first}
 use Rattle.run_table.specs.Sets.{RIGHTS}
-use Rattle.run_due_pair.specs.declared.Due.{Due}
-use Rattle.run_due_pair.specs.declared.Due.TheVariants.{Pair as Found, NoneDue}
+use Rattle.run_due_pair.specs.declared.Pair.{Pair as Found}
 
 -- place k of the inputs of terms i and j: terms with equal rows
 unfoldable pub same_input : Table → (inputs : List ℕ) → (i j k : ℕ) → Bool
@@ -34,15 +33,19 @@ pair_among lefts terms table j i = cond (holds lefts i) (pair_for terms table j 
 unfoldable pub left_among : (lefts : ℕ) → List Term → Table → (j : ℕ) → Option Pair
 left_among lefts terms table j = first j 0 (pair_among lefts terms table j)
 
--- what the search found, as the rule has it
+-- what the search answers: a pair that it found, or that there is none
+abbrev pub Due : Type 0
+Due = Optional Found
+
+-- the same, as the rule has it
 unfoldable pub pair_of : Due → Option Pair
-pair_of (Found left right) = some (record { left = left; right = right })
-pair_of NoneDue = none
+pair_of (Some pair) = some (record { left = pair.left; right = pair.right })
+pair_of None = none
 
 -- a pair found is i < j < n
 unfoldable pub PairBelow : (n : ℕ) → Due → Type 0
-PairBelow n (Found left right) = (left < right) × (right < n)
-PairBelow n NoneDue = Unit {0}
+PairBelow n (Some pair) = (pair.left < pair.right) × (pair.right < n)
+PairBelow n None = Unit {0}
 
 -- No lookup waits to be compared with j any more; what else waits stays.
 pub record RightPassed (j : ℕ) (waiting₀ waiting : List ℕ) : Type 0 where

@@ -26,26 +26,24 @@ use run_table::OPEN;
 // Of the sets of `waiting`, set j holds the left sides that wait for j, and the last one the right sides that any waits for.
 pub const RIGHTS: usize = TERMS;
 
-// The pair due, of the smallest right and then the smallest left; or none is.
-#[derive(Drop)]
-pub enum Due {
-    Pair { left: usize, right: usize },
-    NoneDue,
+// A pair due: two lookups, the left one before the right one.
+#[derive(Clone, Copy, Debug, PartialEq, Eq)]
+pub struct Pair {
+    pub left: usize,
+    pub right: usize,
 }
 
 // Lookups of one function have one head; the head 0 is no lookup.
+#[tactic(auto, using(crate::proofs::Steps::no_head, crate::proofs::Steps::heads_told))]
 fn same_function(heads: &[u16], i: usize, j: usize) -> bool
     requires { (i < length heads.now) × (j < length heads.now) }
     ensures { Alike i j heads.now result }
 {
-    let head = heads[i];
-    if head == 0 {
-        return false;
-    }
-    head == heads[j]
+    heads[i] != 0 && heads[i] == heads[j]
 }
 
 // Whether the inputs of i and j at place k have equal rows. A place that a lookup does not use holds 0, on both sides.
+#[tactic(auto, unfolding(crate::specs::Found::same_input))]
 fn same_input(
     nums: &[i32],
     dens: &[i32],
@@ -59,8 +57,8 @@ fn same_input(
     requires { InputsComparable n i j inputs.now (lent nums dens sets) × (k < 3) }
     ensures { result ≡ same_input (table_of n (entered nums dens sets)) inputs.now i j k }
 {
-    let t = inputs[3 * i + k] as usize;
-    let u = inputs[3 * j + k] as usize;
+    let t = usize::from(inputs[3 * i + k]);
+    let u = usize::from(inputs[3 * j + k]);
     same_row(nums, dens, n, sets, t, u)
 }
 
@@ -76,13 +74,7 @@ fn same_inputs(
     requires { InputsComparable n i j inputs.now (lent nums dens sets) }
     ensures { result ≡ same_inputs (table_of n (entered nums dens sets)) inputs.now i j }
 {
-    if !same_input(nums, dens, n, inputs, sets, i, j, 0) {
-        return false;
-    }
-    if !same_input(nums, dens, n, inputs, sets, i, j, 1) {
-        return false;
-    }
-    same_input(nums, dens, n, inputs, sets, i, j, 2)
+    (0..3).all(|k| same_input(nums, dens, n, inputs, sets, i, j, k))
 }
 
 // 01, Close: lookups with the same kind and symbol, inputs with equal rows place by place, and unequal rows of their own.
@@ -99,13 +91,9 @@ fn is_due(
     requires { PairComparable n i j heads.now inputs.now (lent nums dens sets) }
     ensures { TellsDue n i j heads.now inputs.now (entered nums dens sets) result }
 {
-    if !same_function(heads, i, j) {
-        return false;
-    }
-    if !same_inputs(nums, dens, n, inputs, sets, i, j) {
-        return false;
-    }
-    !same_row(nums, dens, n, sets, i, j)
+    same_function(heads, i, j)
+        && same_inputs(nums, dens, n, inputs, sets, i, j)
+        && !same_row(nums, dens, n, sets, i, j)
 }
 
 // The open lookups in set k of `waiting`: those to compare lookup k with; in the last set the right sides that any waits for.
@@ -136,7 +124,7 @@ fn left_due(
     sets: &[u64],
     lefts: u64,
     j: usize,
-) -> Due
+) -> Option<Pair>
     requires { LeftsSearchable n j heads.now inputs.now (lent nums dens sets) }
     ensures { FindsLeft n lefts j heads.now inputs.now (entered nums dens sets) result }
 {
@@ -144,12 +132,12 @@ fn left_due(
     let mut i = set_extremes::first(rest);
     while i < j {
         if is_due(nums, dens, n, heads, inputs, sets, i, j) {
-            return Due::Pair { left: i, right: j };
+            return Some(Pair { left: i, right: j });
         }
         rest = set_extremes::rest(rest);
         i = set_extremes::first(rest);
     }
-    Due::NoneDue
+    None
 }
 
 // The pair due, where every pair due of open lookups waits. Of a right side that has no pair due none waits afterwards.
@@ -161,7 +149,7 @@ pub fn find_due(
     inputs: &[u8],
     sets: &[u64],
     waiting: &mut [u64],
-) -> Due
+) -> Option<Pair>
     requires { Searchable n heads.now inputs.now waiting.old (lent nums dens sets) }
     ensures { FindsDue n heads.now inputs.now waiting.new (entered nums dens sets) result }
 {
@@ -169,13 +157,11 @@ pub fn find_due(
     let mut j = set_extremes::next(rights, 0);
     while j < n {
         let lefts = open_waiting(sets, waiting, j);
-        match left_due(nums, dens, n, heads, inputs, sets, lefts, j) {
-            Due::Pair { left, right } => return Due::Pair { left, right },
-            Due::NoneDue => {
-                pass(waiting, j);
-                j = set_extremes::next(rights, j + 1);
-            }
+        if let Some(pair) = left_due(nums, dens, n, heads, inputs, sets, lefts, j) {
+            return Some(pair);
         }
+        pass(waiting, j);
+        j = set_extremes::next(rights, j + 1);
     }
-    Due::NoneDue
+    None
 }

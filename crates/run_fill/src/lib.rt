@@ -8,9 +8,5 @@ pub fn fill(list: &mut [i32], from: usize, end: usize, x: i32)
     requires { Fillable from end list.old }
     ensures { Filled from end x list.old list.new }
 {
-    let mut k = from;
-    while k < end {
-        list[k] = x;
-        k += 1;
-    }
+    list[from..end].fill(x);
 }

@@ -17,10 +17,8 @@ fn ones_from(dens: &mut [i32], n: usize)
     requires { Roomy n dens.old }
     ensures { Filled (rule.COLUMNS * n) rule.PLACES (pos 1) dens.old dens.new }
 {
-    let mut t = n;
-    while t < TERMS {
+    for t in n..TERMS {
         run_fill::fill(dens, COLUMNS * t, COLUMNS * t + COLUMNS, 1);
-        t += 1;
     }
 }
 
@@ -41,12 +39,14 @@ pub fn with_rows(
     run_fill::fill(nums, COLUMNS * n, PLACES, 0);
     ones_from(dens, n);
     if same {
-        return Answer::Entailed { solved: solved };
+        Answer::Entailed { solved }
+    } else {
+        Answer::NotEntailed { solved }
     }
-    Answer::NotEntailed { solved: solved }
 }
 
 // A run that stopped: every place becomes 0.
+#[tactic(auto, using(crate::proofs::Left::clears))]
 pub fn cleared(nums: &mut [i32], dens: &mut [i32], answer: Answer) -> Answer
     requires { Long (lent_of nums.old dens.old) }
     ensures { Clears answer result (lent_of nums.old dens.old) (lent_of nums.new dens.new) }

@@ -1,5 +1,8 @@
 -- One column of a fold: what the rule makes of it, where the number stands as it is, and the steps that the code takes.
 -- Main results: `folded_solved`, `folded_gains`, `gains_no_form`, `gains_nothing`, `gained_one`, `gained_product`, `gained_refused`. Assume nothing.
+use Rattle.std.specs.Prelude.{Err, Ok, Result, IsErrAnd}
+use Rattle.std.proofs.lemmas.Result.{err_from_is_err_and}
+use Rattle.answer.specs.declared.Reason.{Reason}
 use mathlib.Core.Path.{◌≡◌, refl, sym, ap, ◌∙◌, subst}
 use mathlib.Core.Bool.{cond}
 use Prim.Native.Nat.{ℕ}
@@ -13,8 +16,6 @@ use Rattle.fraction.specs.Limits.{tested, plus, times}
 use Rattle.fraction.specs.Made.{made, stopped, ◌>>=◌}
 use Rattle.fraction.proofs.Field as field
 use Rattle.fraction_reduce.specs.Values.{value, Good, Answers, says, FitsGood}
-use Rattle.fraction_reduce.specs.declared.Tested.{Tested}
-use Rattle.fraction_reduce.specs.declared.Tested.TheVariants.{Fits, Refused}
 use Rattle.fraction_reduce.proofs.Answered.{fits_made, refused_stopped}
 use Rattle.fraction_reduce.proofs.Operations.{good_num, good_den}
 use Rattle.fraction_reduce.proofs.Shortcuts.{word_is, times_one}
@@ -40,7 +41,7 @@ gained_then : (k f x : ℚ) {q : ℚ} → times k f ≡ made q → gained_by k f
 unfolding gained_by ◌>>=◌
 gained_then k f x h = rw h
 
-gained_stops : (k f x : ℚ) {number : ℕ} → times k f ≡ stopped number → gained_by k f x ≡ stopped number
+gained_stops : (k f x : ℚ) {why : Reason} → times k f ≡ stopped why → gained_by k f x ≡ stopped why
 unfolding gained_by ◌>>=◌
 gained_stops k f x h = rw h
 
@@ -59,7 +60,7 @@ gains_nothing f good = gains_zero zero_ℚ f good (field.times_comm zero_ℚ f �
 
 -- What answers for the code's steps answers for the rule: where k is 1 the sum with the form's number,
 module _ {k form old : Fraction} (asked : Gainable k form old) where
-  pub gained_one : {r : Tested} → of_z w32 k.num ≡ of_z w32 (pos 1) → of_z w32 k.den ≡ of_z w32 (pos 1)
+  pub gained_one : {r : Result Fraction Reason} → of_z w32 k.num ≡ of_z w32 (pos 1) → of_z w32 k.den ≡ of_z w32 (pos 1)
       → Answers r (plus (value old) (value form)) → Answers r (gained_by (value k) (value form) (value old))
   gained_one {r} num den answers =
       let good = asked.coefficient_good in
@@ -67,12 +68,14 @@ module _ {k form old : Fraction} (asked : Gainable k form old) where
       subst (Answers r) (sym (gained_then (value k) (value form) (value old) (fits_made product refl))) answers
 
   -- else the sum with the product that was made,
-  module _ {product : Tested} (multiplied : Answers product (times (value k) (value form))) where
-    pub gained_product : {r : Tested} {f : Fraction} → product ≡ Fits f → Answers r (plus (value old) (value f))
-        → Answers r (gained_by (value k) (value form) (value old))
-    gained_product {r} fits answers = subst (Answers r) (sym (gained_then (value k) (value form) (value old) (fits_made multiplied fits))) answers
+  pub gained_product : {r : Result Fraction Reason} {f : Fraction} → Answers (Ok f) (times (value k) (value form))
+      → Answers r (plus (value old) (value f)) → Answers r (gained_by (value k) (value form) (value old))
+  gained_product {r} multiplied answers = subst (Answers r) (sym (gained_then (value k) (value form) (value old) (fits_made multiplied refl))) answers
 
-    -- or the refusal of the product.
-    pub gained_refused : {number : ℕ} → product ≡ Refused number → Answers (Refused number) (gained_by (value k) (value form) (value old))
-    unfolding says FitsGood
-    gained_refused refused = record { same = sym (gained_stops (value k) (value form) (value old) (refused_stopped multiplied refused)); sound = tt }
+  -- or the refusal of the product.
+  pub gained_refused : {why : Reason} {r : Result Fraction Reason} → Answers (Err why) (times (value k) (value form))
+      → IsErrAnd r (λ reason. reason ≡ why) → Answers r (gained_by (value k) (value form) (value old))
+  unfolding says FitsGood
+  gained_refused {r = r} multiplied refused =
+      let p = err_from_is_err_and r refused in
+      rw (p.1, p.2) (record { same = sym (gained_stops (value k) (value form) (value old) (refused_stopped multiplied refl)); sound = tt })

@@ -1,5 +1,6 @@
 -- The fold of one row: 0 is stored in the solved column, and the others gain.
 -- Main results: `column_stands`, `fold_asks`, `fold_made`, `row_passed`. Assume nothing.
+use Rattle.std.specs.Prelude.{Ok}
 use mathlib.Core.Path.{◌≡◌, refl, sym, ap, ap₂, ◌∙◌}
 use mathlib.Core.Bool.{false, not, ◌&&◌, false≢true}
 use mathlib.Core.List.{List}
@@ -17,8 +18,7 @@ use Rattle.fraction.specs.Made.{made}
 use Rattle.fraction_reduce.proofs.Tests.{zero_stands}
 use Rattle.rules_run.specs.Row.{TERMS, COLUMNS, column}
 use Rattle.rules_run.specs.Merge.{folded_column}
-use Rattle.run_table.specs.declared.Step.{Step}
-use Rattle.run_table.specs.declared.Step.TheVariants.{Done}
+use Rattle.run_table.specs.Step.{Step}
 use Rattle.run_table.specs.Held.{held_at, row_at}
 use Rattle.run_table.specs.Lists.{both}
 use Rattle.run_table.proofs.Columns.{column_held, kept_itself}
@@ -85,7 +85,7 @@ module _ {base p set : ℕ} {nums₀ dens₀ form-nums form-dens : List ℤ}
 
   -- A row whose coefficient at p is 0 is its own fold.
   pub row_passed : value (held_at nums₀ dens₀ (base + p)) ≡ zero_ℚ
-      → FoldsAt base p (both form-nums form-dens) Done (both nums₀ dens₀) (both nums₀ dens₀)
+      → FoldsAt base p (both form-nums form-dens) (Ok tt) (both nums₀ dens₀) (both nums₀ dens₀)
   row_passed none =
       record {
         row_made =

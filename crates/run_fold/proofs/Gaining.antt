@@ -1,5 +1,8 @@
 -- The loop in which the columns of a row gain k times the form's: how it begins, what a turn makes of a column, and what it leaves.
 -- Main results: `gaining_starts`, `gaining_asks`, `gaining_stores`, `gaining_passes`, `gaining_stops`, `gaining_ends`. Assume nothing.
+use Rattle.std.specs.Prelude.{Err, Ok, Result, IsErrAnd}
+use Rattle.std.proofs.lemmas.Result.{err_from_is_err_and}
+use Rattle.answer.specs.declared.Reason.{Reason}
 use mathlib.Core.Path.{◌≡◌, refl, sym, ap, ap₂, ◌∙◌, subst}
 use mathlib.Core.List.{List}
 use Prim.Native.Nat.{ℕ, ◌+◌, ◌≤◌, ◌<◌}
@@ -11,11 +14,9 @@ use mir.Val.{of_z}
 use Rattle.set_extremes.specs.Extremes.{Next, Rest}
 use Rattle.fraction.specs.declared.Fraction.{Fraction}
 use Rattle.fraction_reduce.specs.Values.{value, Good, Answers}
-use Rattle.fraction_reduce.specs.declared.Tested.{Tested}
-use Rattle.fraction_reduce.specs.declared.Tested.TheVariants.{Fits, Refused}
 use Rattle.fraction_reduce.proofs.Tests.{zero_value}
 use Rattle.rules_run.specs.Row.{COLUMNS}
-use Rattle.run_table.specs.declared.Step.TheVariants.{Done, Refused as Stopped}
+use Rattle.run_table.specs.Step.{Step}
 use Rattle.run_table.specs.Held.{held_at, row_at}
 use Rattle.run_table.specs.Lists.{both}
 use Rattle.run_table.proofs.Columns.{column_held, column_first}
@@ -60,23 +61,25 @@ module _ {base : ℕ} {k : Fraction} {nums₀ dens₀ form-nums form-dens : List
       pub gaining_asks : Gainable k form old
       gaining_asks = record { coefficient_good = asked.coefficient_good; form_good = form_good; number_good = going_good taking.going (taking_next taking more first) refl read }
 
-      module _ {r : Tested} (answers : Answers r (gained_by (value k) (value form) (value old))) where
-        -- The loop reads a number that stands as it did when the loop began: what answers for it answers for the column.
-        column_answers : Answers r (gained_in base k set (both nums₀ dens₀) (both form-nums form-dens) at)
-        column_answers =
-            subst (Answers r) (ap (λ x. gained_by (value k) (value form) (value x)) (read ∙ going_reads taking.going (taking_next taking more first)) ∙ sym gains) answers
+      -- The loop reads a number that stands as it did when the loop began: what answers for it answers for the column.
+      column_answers : {r : Result Fraction Reason} → Answers r (gained_by (value k) (value form) (value old))
+          → Answers r (gained_in base k set (both nums₀ dens₀) (both form-nums form-dens) at)
+      column_answers {r} answers =
+          subst (Answers r) (ap (λ x. gained_by (value k) (value form) (value x)) (read ∙ going_reads taking.going (taking_next taking more first)) ∙ sym gains) answers
 
-        -- It is stored, and the loop goes on; or it is refused, and the loop is over.
-        pub gaining_stores : {after : ℕ} {f : Fraction} {nums' dens' : List ℤ} → Rest rest after → r ≡ Fits f
-            → nums' ≡ stored_at nums (base + at) f.num → dens' ≡ stored_at dens (base + at) f.den
-            → Taking (gained_in base k set (both nums₀ dens₀) (both form-nums form-dens)) base (base + COLUMNS) set (at + 1) after nums₀ dens₀ nums' dens'
-        gaining_stores others fits num den = taking_stores taking more first others column_answers fits refl num den
+      -- It is stored, and the loop goes on; or it is refused, and the loop is over.
+      pub gaining_stores : {after : ℕ} {f : Fraction} {nums' dens' : List ℤ} → Rest rest after → Answers (Ok f) (gained_by (value k) (value form) (value old))
+          → nums' ≡ stored_at nums (base + at) f.num → dens' ≡ stored_at dens (base + at) f.den
+          → Taking (gained_in base k set (both nums₀ dens₀) (both form-nums form-dens)) base (base + COLUMNS) set (at + 1) after nums₀ dens₀ nums' dens'
+      gaining_stores others answers num den = taking_stores taking more first others (column_answers answers) refl refl num den
 
-        pub gaining_stops : {number : ℕ} → r ≡ Refused number
-            → GainsRow base k set (both form-nums form-dens) (Stopped number) (both nums₀ dens₀) (both nums dens)
-        gaining_stops refused = record { row_made = (taking_stops taking more first column_answers refused).row_made }
+      pub gaining_stops : {why : Reason} {step : Step} → Answers (Err why) (gained_by (value k) (value form) (value old))
+          → IsErrAnd step (λ reason. reason ≡ why) → GainsRow base k set (both form-nums form-dens) step (both nums₀ dens₀) (both nums dens)
+      gaining_stops {step = step} answers refused =
+          let p = err_from_is_err_and step refused in
+          rw (p.1, p.2) (record { row_made = (taking_stops taking more first (column_answers answers) refl).row_made })
 
   pub gaining_ends : {set c rest : ℕ} {nums dens : List ℤ}
       → Taking (gained_in base k set (both nums₀ dens₀) (both form-nums form-dens)) base (base + COLUMNS) set c rest nums₀ dens₀ nums dens
-      → COLUMNS ≤ c → GainsRow base k set (both form-nums form-dens) Done (both nums₀ dens₀) (both nums dens)
+      → COLUMNS ≤ c → GainsRow base k set (both form-nums form-dens) (Ok tt) (both nums₀ dens₀) (both nums dens)
   gaining_ends taking end = record { row_made = (taking_ends taking end).row_made }

@@ -1,5 +1,6 @@
 -- What the sets of a run say after a row was folded.
 -- Main results: `sets_noted`, `row_sparse`, `row_stirred`. Assume nothing.
+use Rattle.std.specs.Prelude.{Ok}
 use mathlib.Core.Path.{◌≡◌, refl, sym, ap, ◌∙◌}
 use mathlib.Core.Logic.{◌⊎◌, inl, inr}
 use mathlib.Core.Bool.{Bool, true, false, not, ◌&&◌, ◌||◌, true≢false, or-true}
@@ -16,13 +17,13 @@ use lib.Seq.{get_or-set_same, get_or-set_other}
 use Rattle.set_members.specs.Sets.{holds}
 use Rattle.fraction.specs.declared.Fraction.{Fraction}
 use Rattle.fraction.specs.Exact.{ℚ, whole, zero_ℚ}
+use Rattle.answer.specs.declared.Reason.{Reason}
 use Rattle.fraction.specs.Made.{Made, made}
 use Rattle.fraction.proofs.Making.{tab_member}
 use Rattle.fraction_reduce.specs.Values.{value, Good}
 use Rattle.fraction_reduce.proofs.Lowest.{value_num}
 use Rattle.rules_run.specs.Row.{TERMS, COLUMNS, column, row}
-use Rattle.run_table.specs.declared.Step.{Step}
-use Rattle.run_table.specs.declared.Step.TheVariants.{Done}
+use Rattle.run_table.specs.Step.{Step}
 use Rattle.run_table.specs.Held.{held_at, row_at}
 use Rattle.run_table.specs.Lists.{Lists, both}
 use Rattle.run_table.specs.Loop.{RowMade}
@@ -62,8 +63,8 @@ unfolding zero_ℚ whole
 numerator_zero good none = sym (value_num good) ∙ ap (λ q. q.num) none
 
 -- A row that is done holds what the rule makes of each column.
-column_made : {g : ℕ → Made ℕ ℚ} {base m : ℕ} {step : Step} {nums₀ dens₀ nums dens : List ℤ} → RowMade g base m step nums₀ dens₀ nums dens
-    → step ≡ Done → (c : ℕ) → c < COLUMNS → g c ≡ made (value (held_at nums dens (base + c)))
+column_made : {g : ℕ → Made Reason ℚ} {base m : ℕ} {step : Step} {nums₀ dens₀ nums dens : List ℤ} → RowMade g base m step nums₀ dens₀ nums dens
+    → step ≡ Ok tt → (c : ℕ) → c < COLUMNS → g c ≡ made (value (held_at nums dens (base + c)))
 unfolding row column
 column_made {g} {base} {nums = nums} {dens} turn done c below =
     let all : row g ≡ made (row_at nums dens base) = stepped_done turn.ends done in
@@ -77,7 +78,7 @@ in_neither false true there e h = absurd (true≢false h)
 
 -- After a fold a row is within its set and the form's, without p: elsewhere 0 gains nothing, and in column p it is made 0.
 folded_within : {base p set before after : ℕ} {form : Lists} {step : Step} {nums₀ dens₀ nums dens : List ℤ}
-    → FoldableAt base p set (both nums₀ dens₀) form → FoldsAt base p form step (both nums₀ dens₀) (both nums dens) → step ≡ Done
+    → FoldableAt base p set (both nums₀ dens₀) form → FoldsAt base p form step (both nums₀ dens₀) (both nums dens) → step ≡ (Ok tt)
     → ((c : ℕ) → holds after c ≡ (not (eqb c p) && (holds before c || holds set c))) → Within before base nums₀ → Within after base nums
 folded_within {base} {p} {set} {before} {after} {form} {nums₀ = nums₀} {dens₀} {nums} {dens} asked folds done noted was =
     record { zero = λ c below out. numerator_zero (folds.row_made.sound.good (base + c) (omega arith)) (by c below out (ℕ_discrete c p)) }
@@ -126,7 +127,7 @@ module _ {n t p set : ℕ} {form : Lists} {step : Step} {old new : Work} (below 
           }
 
   -- After one that is done, every row below n is within its set again.
-  pub row_sparse : n ≤ TERMS → step ≡ Done → Sparse n old.nums old.sets → Sparse n new.nums new.sets
+  pub row_sparse : n ≤ TERMS → step ≡ Ok tt → Sparse n old.nums old.sets → Sparse n new.nums new.sets
   unfolding columns_of
   row_sparse few done sparse = how folds.noted
     where

@@ -1,6 +1,9 @@
 -- A fold of all rows, in a loop over them: the rows passed are folded, the others stand as they were.
 -- Main definition: `Folding`, the loop's invariant. Main results: `passed_starts`, `passed_more`, `fold_passes`, `fold_notes`,
 -- `folding_starts`, `folding_asks`, `folding_seeks`, `folding_goes_on`, `folding_stops`, `folding_ends`. Assume nothing.
+use Rattle.answer.specs.declared.Reason.{Reason}
+use Rattle.std.specs.Prelude.{Err, Ok, IsErrAnd}
+use Rattle.std.proofs.lemmas.Result.{err_from_is_err_and}
 use mathlib.Core.Path.{◌≡◌, refl, sym, ap, ◌∙◌}
 use mathlib.Core.Logic.{inl, inr}
 use mathlib.Core.List.{List}
@@ -19,8 +22,7 @@ use Rattle.fraction.proofs.Making.{tab_stopped}
 use Rattle.fraction_reduce.proofs.Tests.{zero_value}
 use Rattle.rules_run.specs.Row.{COLUMNS, row, row_of}
 use Rattle.rules_run.specs.Merge.{folded_column, folded}
-use Rattle.run_table.specs.declared.Step.{Step}
-use Rattle.run_table.specs.declared.Step.TheVariants.{Done, Refused}
+use Rattle.run_table.specs.Step.{Step}
 use Rattle.run_table.specs.Held.{held_at, row_at, table_at, SoundTo, stepped}
 use Rattle.run_table.specs.Lists.{Lists, both, row_in}
 use Rattle.run_table.specs.Loop.{Kept}
@@ -51,7 +53,7 @@ passed_more {p = p} {from} {t} {nums} below none passed =
 
 -- A row whose coefficient at p is 0 is passed over; another is folded, and that is noted.
 pub fold_passes : {t p set : ℕ} {form : Lists} {w : Work} {k : Fraction} → FoldableRow t p set form w
-    → k ≡ held_at w.nums w.dens (COLUMNS * t + p) → of_z w32 k.num ≡ of_z w32 (pos 0) → FoldsRow t p set form Done w w
+    → k ≡ held_at w.nums w.dens (COLUMNS * t + p) → of_z w32 k.num ≡ of_z w32 (pos 0) → FoldsRow t p set form (Ok tt) w w
 fold_passes asked read none =
     let term = asked.columns.unknown.term in
     let good = read_good asked.columns.row read (omega arith) in
@@ -125,7 +127,7 @@ module _ {n p set : ℕ} {form : Lists} {old : Work} (asked : Foldable n p set f
       all_stirred = stirred_then asked.rows.few folding.stirred (row_stirred below (folding_asks below) folds)
 
       -- One row more is folded.
-      one_more : step ≡ Done → Folding n p form (t + 1) old w'
+      one_more : step ≡ Ok tt → Folding n p form (t + 1) old w'
       unfolding stepped
       one_more done =
           record {
@@ -143,13 +145,13 @@ module _ {n p set : ℕ} {form : Lists} {old : Work} (asked : Foldable n p set f
           by s less (no other) = folding.folded_below s (omega arith) ∙ ap made (sym (kept_row folds.columns.row_made.kept (COLUMNS * s) (inl (omega arith))))
 
       -- A row is refused: the fold is.
-      pub folding_stops : {number : ℕ} → step ≡ Refused number → Folds n p form (Refused number) old w'
+      stops : {why : Reason} → step ≡ Err why → Folds n p form (Err why) old w'
       unfolding folded stepped
-      folding_stops {number} refused =
+      stops {why} refused =
           record {
             ends =
                 ap (λ count. tab count 0 (λ s. row (folded_column p (row_in form 0) (row_of (table_of n old) s)))) (table_length n old.nums old.dens)
-                ∙ tab_stopped (λ s. row (folded_column p (row_in form 0) (row_of (table_of n old) s))) n 0 t number below (λ s h. (row_at w.nums w.dens (COLUMNS * s), rw zero-add (folding.folded_below s h)))
+                ∙ tab_stopped (λ s. row (folded_column p (row_in form 0) (row_of (table_of n old) s))) n 0 t why below (λ s h. (row_at w.nums w.dens (COLUMNS * s), rw zero-add (folding.folded_below s h)))
                 (rw zero-add (stepped_refused _ row_read refused));
             kept = all_kept (COLUMNS * n) (omega arith);
             sound = all_sound;
@@ -180,10 +182,16 @@ module _ {n p set : ℕ} {form : Lists} {old : Work} (asked : Foldable n p set f
             ap (λ r. row (folded_column p (row_in form 0) r)) (row_held_lem n old.nums old.dens s inside ∙ sym (kept_row folding.kept (COLUMNS * s) (inr (omega arith))))
             ∙ (row_passed (foldable s inside) none).row_made.ends
 
+  pub folding_stops : {t : ℕ} {w w' : Work} {why : Reason} {step : Step} → Folding n p form t old w → t < n → FoldsRow t p set form (Err why) w w'
+      → IsErrAnd step (λ reason. reason ≡ why) → Folds n p form step old w'
+  folding_stops {step = step} folding below folds refused =
+      let p = err_from_is_err_and step refused in
+      rw (p.1, p.2) (stops folding below folds refl)
+
   -- A row is folded, and those behind it that hold 0 at p are passed over.
-  pub folding_goes_on : {t r : ℕ} {w w' : Work} {step : Step} → Folding n p form t old w → t < n → FoldsRow t p set form step w w'
-      → step ≡ Done → Passed n p (t + 1) r w'.nums → Folding n p form r old w'
-  folding_goes_on folding below folds done passed = passes (one_more folding below folds done) passed
+  pub folding_goes_on : {t r : ℕ} {w w' : Work} → Folding n p form t old w → t < n → FoldsRow t p set form (Ok tt) w w'
+      → Passed n p (t + 1) r w'.nums → Folding n p form r old w'
+  folding_goes_on folding below folds passed = passes (one_more folding below folds refl) passed
 
   -- The rows behind a folded one can be looked at for p.
   pub folding_seeks : {t : ℕ} {w : Work} {step : Step} {nums dens : List ℤ} {sets : List ℕ} → Folding n p form t old w → t < n
@@ -198,7 +206,7 @@ module _ {n p set : ℕ} {form : Lists} {old : Work} (asked : Foldable n p set f
       }
 
   -- All rows are folded: the table is.
-  pub folding_ends : {t : ℕ} {w : Work} → Folding n p form t old w → n ≤ t → Folds n p form Done old w
+  pub folding_ends : {t : ℕ} {w : Work} → Folding n p form t old w → n ≤ t → Folds n p form (Ok tt) old w
   unfolding folded stepped table_at
   folding_ends {t} {w} folding over =
       let most = folding.most in

@@ -1,16 +1,16 @@
 -- What the functions of a fold ask for, and what they ensure: of one number, of the columns of a row, of a row and its sets, of all rows.
 -- Main definitions: `Gainable`, `GainableRow`, `GainsRow`, `FoldableAt`, `FoldsAt`, `SetsNotable`, `Noted`, `FoldableRow`, `FoldsRow`,
 -- `Passable`, `Passed`, `Foldable`, `Folds`. Assume nothing.
-use Rattle.std.specs.Prelude.{◌≡◌, ◌⊎◌, ◌≢◌, not, ◌&&◌, ◌||◌, List, ℕ, ◌+◌, ◌*◌, ◌≤◌, ◌<◌, eqb, ℤ, pos, length, get_or}
+use Rattle.std.specs.Prelude.{◌≡◌, ◌⊎◌, ◌≢◌, not, ◌&&◌, ◌||◌, List, ℕ, ◌+◌, ◌*◌, ◌≤◌, ◌<◌, eqb, ℤ, pos, length, get_or, Ok}
 use Rattle.set_members.specs.Sets.{holds}
 use Rattle.fraction.specs.declared.Fraction.{Fraction}
 use Rattle.fraction.specs.Exact.{ℚ}
+use Rattle.answer.specs.declared.Reason.{Reason}
 use Rattle.fraction.specs.Made.{Made}
 use Rattle.fraction_reduce.specs.Values.{value, Good}
 use Rattle.rules_run.specs.Row.{TERMS, COLUMNS, PLACES}
 use Rattle.rules_run.specs.Merge.{folded_column, folded}
-use Rattle.run_table.specs.declared.Step.{Step}
-use Rattle.run_table.specs.declared.Step.TheVariants.{Done}
+use Rattle.run_table.specs.Step.{Step}
 use Rattle.run_table.specs.Held.{SoundTo, stepped}
 use Rattle.run_table.specs.Lists.{Lists, both, row_in, RowHeld, RowWithin, Unknown}
 use Rattle.run_table.specs.Loop.{Kept, RowMade}
@@ -32,7 +32,7 @@ pub record GainableRow (base : ℕ) (k : Fraction) (rows form : Lists) : Type 0 
   pub form_row : RowHeld 0 form
 
 -- the columns of the row that has gained in the columns of the set, and in the constant's
-abbrev pub gained_in : (base : ℕ) (k : Fraction) (set : ℕ) (rows form : Lists) → (c : ℕ) → Made ℕ ℚ
+abbrev pub gained_in : (base : ℕ) (k : Fraction) (set : ℕ) (rows form : Lists) → (c : ℕ) → Made Reason ℚ
 gained_in base k set rows form c = reached set (gained_column (value k) (row_in form 0) (row_in rows base)) (row_in rows base) c
 
 -- The columns have gained, or one is refused; no other row has changed.
@@ -46,7 +46,7 @@ pub record FoldableAt (base p set : ℕ) (rows form : Lists) : Type 0 where
   pub form_row : RowWithin set 0 form
 
 -- the columns of the row with the form folded in
-abbrev pub folded_in : (base p : ℕ) (rows form : Lists) → (c : ℕ) → Made ℕ ℚ
+abbrev pub folded_in : (base p : ℕ) (rows form : Lists) → (c : ℕ) → Made Reason ℚ
 folded_in base p rows form c = folded_column p (row_in form 0) (row_in rows base) c
 
 -- The form is folded into the row as the rule does it, or a column is refused; no other row has changed.
@@ -103,5 +103,5 @@ pub record Folds (n p : ℕ) (form : Lists) (step : Step) (old new : Work) : Typ
   pub ends : folded p (row_in form 0) (table_of n old) ≡ stepped step (table_of n new)
   pub kept : Kept 0 (COLUMNS * n) old.nums old.dens new.nums new.dens
   pub sound : SoundTo (COLUMNS * n) new.nums new.dens
-  pub sparse : step ≡ Done → Sparse n new.nums new.sets
+  pub sparse : step ≡ Ok tt → Sparse n new.nums new.sets
   pub stirred : Stirred n old.nums old.dens new.nums new.dens old.sets new.sets

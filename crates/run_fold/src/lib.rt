@@ -9,14 +9,14 @@ ghost use Rattle.run_fold.specs.Cell.{gained_by};
 ghost use Rattle.run_fold.specs.Contract.{Gainable, GainableRow, GainsRow, FoldableAt, FoldsAt};
 ghost use Rattle.run_fold.specs.Contract.{SetsNotable, Noted, FoldableRow, FoldsRow, Passable, Passed, Foldable, Folds};
 
+use answer::Reason;
 use fraction::Fraction;
-use fraction_reduce::Tested;
 use rules_problem::COLUMNS;
-use run_table::{PENDING, Step, USERS};
+use run_table::{PENDING, USERS};
 
 // A number of a row gains k times the form's: one product, one sum. Where k is 1 the product is the form's own number, which is within the
 // limits already, so that only the sum is made.
-fn gained(k: Fraction, form: Fraction, old: Fraction) -> Tested
+fn gained(k: Fraction, form: Fraction, old: Fraction) -> Result<Fraction, Reason>
     requires { Gainable k form old }
     ensures { Answers result (gained_by (value k) (value form) (value old)) }
 {
@@ -25,10 +25,8 @@ fn gained(k: Fraction, form: Fraction, old: Fraction) -> Tested
             return fraction_sum::sum(old, form);
         }
     }
-    match fraction_product::product(k, form) {
-        Tested::Fits(f) => fraction_sum::sum(old, f),
-        Tested::Refused(number) => Tested::Refused(number),
-    }
+    let f = fraction_product::product(k, form)?;
+    fraction_sum::sum(old, f)
 }
 
 // The row at base gains k times the form in the columns of a set, in rising order, and last in the constant's. Where the form holds 0 a
@@ -41,7 +39,7 @@ fn gain_columns(
     set: u64,
     form_nums: &[i32],
     form_dens: &[i32],
-) -> Step
+) -> Result<(), Reason>
     requires { GainableRow base k (both nums.old dens.old) (lists form_nums form_dens) }
     ensures { GainsRow base k set (at_entry form_nums form_dens) result (both nums.old dens.old) (both nums.new dens.new) }
 {
@@ -54,13 +52,11 @@ fn gain_columns(
         let form = run_table::get(form_nums, form_dens, at);
         if form.num != 0 {
             let old = run_table::get(nums, dens, base + at);
-            match gained(k, form, old) {
-                Tested::Fits(f) => run_table::put(nums, dens, base + at, f),
-                Tested::Refused(number) => return Step::Refused(number),
-            }
+            let f = gained(k, form, old)?;
+            run_table::put(nums, dens, base + at, f);
         }
     }
-    Step::Done
+    Ok(())
 }
 
 // The form of p is folded into the row at base: its coefficient k at p becomes 0, and each other column gains k times the form's. Outside
@@ -73,7 +69,7 @@ fn fold_columns(
     set: u64,
     form_nums: &[i32],
     form_dens: &[i32],
-) -> Step
+) -> Result<(), Reason>
     requires { FoldableAt base p set (both nums.old dens.old) (lists form_nums form_dens) }
     ensures { FoldsAt base p (at_entry form_nums form_dens) result (both nums.old dens.old) (both nums.new dens.new) }
 {
@@ -113,14 +109,14 @@ fn fold_row(
     form_nums: &[i32],
     form_dens: &[i32],
     sets: &mut [u64],
-) -> Step
+) -> Result<(), Reason>
     requires { FoldableRow t p set (lists form_nums form_dens) (work nums.old dens.old sets.old) }
     ensures { FoldsRow t p set (at_entry form_nums form_dens) result (work nums.old dens.old sets.old) (work nums.new dens.new sets.new) }
 {
     let base = COLUMNS * t;
     let k = run_table::get(nums, dens, base + p);
     if k.num == 0 {
-        return Step::Done;
+        return Ok(());
     }
     note(sets, t, p, set);
     fold_columns(nums, dens, base, p, set, form_nums, form_dens)
@@ -153,16 +149,14 @@ pub fn fold_rows(
     form_nums: &[i32],
     form_dens: &[i32],
     sets: &mut [u64],
-) -> Step
+) -> Result<(), Reason>
     requires { Foldable n p set (lists form_nums form_dens) (work nums.old dens.old sets.old) }
     ensures { Folds n p (at_entry form_nums form_dens) result (work nums.old dens.old sets.old) (work nums.new dens.new sets.new) }
 {
     let mut t: usize = 0;
     while t < n {
-        match fold_row(nums, dens, t, p, set, form_nums, form_dens, sets) {
-            Step::Done => t = next_row(nums, n, p, t + 1),
-            Step::Refused(number) => return Step::Refused(number),
-        }
+        fold_row(nums, dens, t, p, set, form_nums, form_dens, sets)?;
+        t = next_row(nums, n, p, t + 1);
     }
-    Step::Done
+    Ok(())
 }

@@ -1,9 +1,10 @@
 -- The unknown of highest rank, where some unknowns are preferred: the highest of those, and if there is none the highest of all.
 -- Main results: `preferring_one_to_one`, `preferring_none`, `chooses_preferred`, `chooses_other`. Assume nothing.
+use Rattle.std.specs.Prelude.{None, Option, Some}
 use mathlib.Core.Path.{◌≡◌, refl, sym, ap, ap₂, ◌∙◌, fun_ext}
 use mathlib.Core.Logic.{◌≢◌}
 use mathlib.Core.Bool.{Bool, true, false, ◌&&◌, cond}
-use mathlib.Core.Option.{Option, some, none}
+use mathlib.Core.Option.{Option as Maybe, some, none}
 use Prim.Native.Nat.{ℕ, ◌+◌, ◌≤◌, ◌<◌}
 use native.Mathlib.Decide.{dec_lt}
 use native.Mathlib.Omega.{arith}
@@ -16,8 +17,6 @@ use Rattle.rules_run.specs.Run.{by_number}
 use Rattle.laws_invariant.proofs.Pivot.{Pivot, pivot_some, pivot_none}
 use Rattle.run_table.specs.Lists.{Lists, row_in, RowWithin}
 use Rattle.run_table.proofs.Lists.{column_nothing}
-use Rattle.run_pivot.specs.declared.Found.{Found}
-use Rattle.run_pivot.specs.declared.Found.TheVariants.{At, Nothing}
 use Rattle.run_pivot.specs.Contract.{preferring, pivoted, Highest, FindsHighest, Pivots}
 
 -- How a column ranks: above all others if it is preferred, else by its number.
@@ -50,7 +49,7 @@ module _ (preferred : ℕ) (d : Row) where
   pivot_is : {p : ℕ} → Pivot (preferring preferred) TERMS d p → pivot (preferring preferred) TERMS d ≡ some p
   pivot_is {p} top = by (pivot (preferring preferred) TERMS d) refl
     where
-      by : (o : Option ℕ) → pivot (preferring preferred) TERMS d ≡ o → o ≡ some p
+      by : (o : Maybe ℕ) → pivot (preferring preferred) TERMS d ≡ o → o ≡ some p
       by none h = absurd (top.nonzero (pivot_none (preferring preferred) d TERMS h p top.below))
       by (some q) h =
           let other = pivot_some (preferring preferred) d TERMS q h in
@@ -60,7 +59,7 @@ module _ (preferred : ℕ) (d : Row) where
   pivot_of_zeros : ((c : ℕ) → c < TERMS → column d c ≡ zero_ℚ) → pivot (preferring preferred) TERMS d ≡ none
   pivot_of_zeros zeros = by (pivot (preferring preferred) TERMS d) refl
     where
-      by : (o : Option ℕ) → pivot (preferring preferred) TERMS d ≡ o → o ≡ none
+      by : (o : Maybe ℕ) → pivot (preferring preferred) TERMS d ≡ o → o ≡ none
       by none h = refl
       by (some q) h = let other = pivot_some (preferring preferred) d TERMS q h in absurd (other.nonzero (zeros q other.below))
 
@@ -84,7 +83,7 @@ module _ (set preferred both : ℕ) {d : Lists} (row : RowWithin set 0 d) (share
       by true false s p e = let never : ◌≡◌ {A = ℕ} 0 1 = cc in absurd (omega arith)
       by false b s p e = let never : ◌≡◌ {A = ℕ} 0 1 = cc in absurd (omega arith)
 
-  taken_preferred : {found : Found} {p : ℕ} → FindsHighest both d found → found ≡ At p → Pivots set preferred d (At p)
+  taken_preferred : {found : Option ℕ} {p : ℕ} → FindsHighest both d found → found ≡ Some p → Pivots set preferred d (Some p)
   unfolding pivoted
   taken_preferred {p = p} finds at = record {
     chosen = pivot_is preferred (row_in d 0) (record { below = top.unknown.term; nonzero = top.nonzero; highest = ranks });
@@ -105,7 +104,7 @@ module _ (set preferred both : ℕ) {d : Lists} (row : RowWithin set 0 d) (share
           by true there (no not-above) = omega (arith, of_p, ranks_above preferred c there)
           by false there above = omega (arith, of_p, ranks_as_number preferred c there)
 
-  taken_other : {first found : Found} → FindsHighest both d first → first ≡ Nothing → FindsHighest set d found → Pivots set preferred d found
+  taken_other : {first found : Option ℕ} → FindsHighest both d first → first ≡ None → FindsHighest set d found → Pivots set preferred d found
   unfolding pivoted
   taken_other {first} {found} before none-preferred finds = by found finds
     where
@@ -116,8 +115,8 @@ module _ (set preferred both : ℕ) {d : Lists} (row : RowWithin set 0 d) (share
           of true there = absurd (nonzero (before.zeros none-preferred c below (in_both c (in_set c below nonzero) there)))
           of false there = refl
 
-      by : (found : Found) → FindsHighest set d found → Pivots set preferred d found
-      by (At p) finds = record {
+      by : (found : Option ℕ) → FindsHighest set d found → Pivots set preferred d found
+      by (Some p) finds = record {
         chosen = pivot_is preferred (row_in d 0) (record { below = top.unknown.term; nonzero = top.nonzero; highest = λ c below nonzero. ranks c below nonzero (dec_lt p c) });
         unknown = λ q same_at. (finds.highest q same_at).unknown;
       }
@@ -129,7 +128,7 @@ module _ (set preferred both : ℕ) {d : Lists} (row : RowWithin set 0 d) (share
           ranks c below nonzero (yes above) = absurd (nonzero (top.zero_above c above below (in_set c below nonzero)))
           ranks c below nonzero (no not-above) =
               omega (arith, ranks_as_number preferred c (not_preferred c below nonzero), ranks_as_number preferred p (not_preferred p top.unknown.term top.nonzero))
-      by Nothing finds = record {
+      by None finds = record {
         chosen = pivot_of_zeros preferred (row_in d 0) all;
         unknown = λ p at. let never : ◌≡◌ {A = ℕ} 0 1 = cc in absurd (omega arith);
       }
@@ -141,11 +140,11 @@ module _ (set preferred both : ℕ) {d : Lists} (row : RowWithin set 0 d) (share
               of true there = finds.zeros refl c below there
               of false there = column_nothing row c below there
 
-module _ {set preferred both : ℕ} {d : Lists} {first : Found} (row : RowWithin set 0 d) (shared : (k : ℕ) → holds both k ≡ (holds set k && holds preferred k)) (before : FindsHighest both d first) where
+module _ {set preferred both : ℕ} {d : Lists} {first : Option ℕ} (row : RowWithin set 0 d) (shared : (k : ℕ) → holds both k ≡ (holds set k && holds preferred k)) (before : FindsHighest both d first) where
   -- A preferred unknown is left: the highest of them is solved.
-  pub chooses_preferred : {p : ℕ} → first ≡ At p → Pivots set preferred d (At p)
+  pub chooses_preferred : {p : ℕ} → first ≡ Some p → Pivots set preferred d (Some p)
   chooses_preferred at = taken_preferred set preferred both row shared before at
 
   -- None is: the highest unknown of all is solved, or there is none.
-  pub chooses_other : {found : Found} → first ≡ Nothing → FindsHighest set d found → Pivots set preferred d found
+  pub chooses_other : {found : Option ℕ} → first ≡ None → FindsHighest set d found → Pivots set preferred d found
   chooses_other none-preferred finds = taken_other set preferred both row shared before none-preferred finds

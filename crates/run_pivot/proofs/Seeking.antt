@@ -1,5 +1,6 @@
 -- The highest column of a set that is not 0, found going down.
 -- Main definition: `Seeking`, the loop's invariant. Main results: `seeking_starts`, `seeking_finds`, `seeking_goes_on`, `seeking_ends`. Assume nothing.
+use Rattle.std.specs.Prelude.{None, Some}
 use mathlib.Core.Path.{◌≡◌, sym, ap, ◌∙◌, subst}
 use mathlib.Core.Bool.{true}
 use mathlib.Core.List.{List}
@@ -21,7 +22,6 @@ use Rattle.run_table.specs.Held.{held_at, row_at}
 use Rattle.run_table.specs.Lists.{both, RowHeld}
 use Rattle.run_table.proofs.Columns.{column_first}
 use Rattle.run_table.proofs.Lists.{first_good}
-use Rattle.run_pivot.specs.declared.Found.TheVariants.{At, Nothing}
 use Rattle.run_pivot.specs.Contract.{FindsHighest}
 
 -- In the search, going down: the columns of the set from `end` on are 0, and the last before it is in the set.
@@ -47,7 +47,7 @@ module _ {set : ℕ} {nums dens : List ℤ} (held : RowHeld 0 (both nums dens)) 
     good = let most = seeking.most in first_good held read (omega arith)
 
     -- It is not 0: it is found.
-    pub seeking_finds : (of_z w32 f.num ≡ of_z w32 (pos 0) → ⊥) → FindsHighest set (both nums dens) (At (end - 1))
+    pub seeking_finds : (of_z w32 f.num ≡ of_z w32 (pos 0) → ⊥) → FindsHighest set (both nums dens) (Some (end - 1))
     seeking_finds other =
         let most = seeking.most in
         record {
@@ -74,7 +74,7 @@ module _ {set : ℕ} {nums dens : List ℤ} (held : RowHeld 0 (both nums dens)) 
         by c above below inside none-there (no behind) (no other) = seeking.zeros c (omega arith) below inside
 
   -- No column is left: all are 0.
-  pub seeking_ends : {end : ℕ} → Seeking set end nums dens → end ≤ 0 → FindsHighest set (both nums dens) Nothing
+  pub seeking_ends : {end : ℕ} → Seeking set end nums dens → end ≤ 0 → FindsHighest set (both nums dens) None
   seeking_ends seeking none_left =
       record {
         highest = λ p at. let never : ◌≡◌ {A = ℕ} 0 1 = cc in absurd (omega arith);

@@ -6,15 +6,8 @@ ghost use Rattle.run_pivot.specs.Contract.{FindsHighest, Pivots};
 
 use rules_problem::TERMS;
 
-// The unknown that a difference solves, by its column; nothing where no unknown is left in it.
-#[derive(Drop)]
-pub enum Found {
-    At(usize),
-    Nothing,
-}
-
-// The highest column of the set in which the difference holds something else than 0: the first that is met going down.
-fn highest(d_nums: &[i32], d_dens: &[i32], set: u64) -> Found
+// The highest column of the set in which the difference holds something else than 0, the first that is met going down; none where it holds 0 in all.
+fn highest(d_nums: &[i32], d_dens: &[i32], set: u64) -> Option<usize>
     requires { RowHeld 0 (lists d_nums d_dens) }
     ensures { FindsHighest set (at_entry d_nums d_dens) result }
 {
@@ -23,20 +16,21 @@ fn highest(d_nums: &[i32], d_dens: &[i32], set: u64) -> Found
         let c = end - 1;
         let f = run_table::get(d_nums, d_dens, c);
         if f.num != 0 {
-            return Found::At(c);
+            return Some(c);
         }
         end = set_extremes::last(set, c);
     }
-    Found::Nothing
+    None
 }
 
 // 01, Merge: "the highest-numbered term with a nonzero coefficient is solved". Unknowns that are preferred come before all others.
-pub fn pivot(d_nums: &[i32], d_dens: &[i32], set: u64, preferred: u64) -> Found
+// None where no unknown is left in the difference.
+pub fn pivot(d_nums: &[i32], d_dens: &[i32], set: u64, preferred: u64) -> Option<usize>
     requires { RowWithin set 0 (lists d_nums d_dens) }
     ensures { Pivots set preferred (at_entry d_nums d_dens) result }
 {
     match highest(d_nums, d_dens, set_members::common(set, preferred)) {
-        Found::At(p) => Found::At(p),
-        Found::Nothing => highest(d_nums, d_dens, set),
+        Some(p) => Some(p),
+        None => highest(d_nums, d_dens, set),
     }
 }

@@ -1,46 +1,43 @@
--- What holds while closing or the run goes on, and how many unknowns are solved then.
--- Main results: `counted_more`, `when_going`, `while_going`, `going_holds`, `open_going`. Assume nothing.
-use mathlib.Core.Path.{◌≡◌, refl, subst}
+-- What holds while closing or the run goes on.
+-- Main results: `placed_ends`, `when_going`, `open_going`. Assume nothing.
+use Rattle.std.specs.Prelude.{Err, Ok, Result, IfOk, OnOk, IsErrAnd, MatchResult}
+use Rattle.std.proofs.lemmas.Result.{err_from_is_err_and}
+use Rattle.answer.specs.declared.Answer.{Answer}
+use Rattle.run_merge.specs.declared.Halt.{Halt}
+use Rattle.run_merge.specs.declared.Halt.TheVariants.{Contradiction, Refused}
+use mathlib.Core.Path.{◌≡◌, refl}
 use mathlib.Core.List.{[]}
 use Prim.Native.Nat.{ℕ, ◌≤◌}
-use native.Mathlib.Omega.{arith}
 use Rattle.fraction.specs.Made.{because}
 use Rattle.fraction.proofs.Making.{stopped_not_made}
 use Rattle.rules_run.specs.Run.{ends}
-use Rattle.run_close.specs.declared.AfterClosing.{AfterClosing}
-use Rattle.run_close.specs.declared.AfterClosing.TheVariants.{Going as Open, Contradiction, Refused}
-use Rattle.run_close.specs.Outcome.{closed, Counted, WhileOpen}
-use Rattle.run_progress.specs.declared.Ran.{Ran}
-use Rattle.run_progress.specs.declared.Ran.TheVariants.{Going, Ended}
-use Rattle.run_progress.specs.Ran.{ran, WhileGoing, Places}
+use Rattle.run_close.specs.Outcome.{closed}
+use Rattle.run_progress.specs.Ran.{ran, ended, Places}
 
--- A count that is at most one number is at most a greater one.
-pub counted_more : {few many : ℕ} (closing : AfterClosing) → few ≤ many → Counted few closing → Counted many closing
-unfolding Counted
-counted_more (Open solved) more counted = omega (arith, more, counted)
-counted_more Contradiction more counted = tt
-counted_more (Refused number) more counted = tt
+-- A count goes on, and a stop ends the run with its answer.
+pub placed_ends : {place most : ℕ} (closing : Result ℕ Halt) {r : Result ℕ Answer} → IfOk closing (λ count. count ≤ most)
+    → MatchResult closing (λ count. r ≡ Ok count) (λ halt. IsErrAnd r (λ answer. answer ≡ ended place halt)) → Places place closing most r
+unfolding because ends closed ran ended
+placed_ends (Ok count) few goes_on = rw goes_on (record { answers = λ table. refl; counted = few })
+placed_ends (Err Contradiction) {r} few stops =
+    let (answer, is, same) = err_from_is_err_and r stops in
+    rw (is, same) (record { answers = λ table. refl; counted = tt })
+placed_ends (Err (Refused why)) {r} few stops =
+    let (answer, is, same) = err_from_is_err_and r stops in
+    rw (is, same) (record { answers = λ table. refl; counted = tt })
 
 -- What holds where the run goes on with a count holds while it goes on.
-pub when_going : {holds : Type 0} (r : Ran) → ((count : ℕ) → r ≡ Going count → holds) → WhileGoing holds r
-unfolding WhileGoing
-when_going (Going count) held = held count refl
-when_going (Ended answer) held = tt
-
-pub while_going : {holds : Type 0} (r : Ran) → holds → WhileGoing holds r
-while_going r held = when_going r λ count going. held
-
-pub going_holds : {holds : Type 0} {r : Ran} {count : ℕ} → r ≡ Going count → WhileGoing holds r → holds
-unfolding WhileGoing
-going_holds {holds} going held = subst (WhileGoing holds) going held
+pub when_going : {holds : Type 0} (r : Result ℕ Answer) → ((count : ℕ) → r ≡ Ok count → holds) → OnOk r holds
+when_going (Ok count) held = held count refl
+when_going (Err answer) held = tt
 
 -- Closing that has stopped ends the run.
-pub open_going : (holds : Type 0) {place : ℕ} {closing : AfterClosing} {most : ℕ} {r : Ran} → Places place closing most r → WhileOpen holds closing → WhileGoing holds r
-unfolding because closed ran WhileOpen WhileGoing
+pub open_going : (holds : Type 0) {place : ℕ} {closing : Result ℕ Halt} {most : ℕ} {r : Result ℕ Answer} → Places place closing most r → OnOk closing holds → OnOk r holds
+unfolding because closed ran
 open_going holds {place} {closing} {r = r} places = by closing r (places.answers [])
   where
-    by : (closing : AfterClosing) (r : Ran) → because (ends place) (closed closing []) ≡ ran r [] → WhileOpen holds closing → WhileGoing holds r
-    by closing (Ended answer) placed held = tt
-    by (Open solved) (Going count) placed held = held
-    by Contradiction (Going count) placed held = absurd (stopped_not_made placed)
-    by (Refused number) (Going count) placed held = absurd (stopped_not_made placed)
+    by : (closing : Result ℕ Halt) (r : Result ℕ Answer) → because (ends place) (closed closing []) ≡ ran r [] → OnOk closing holds → OnOk r holds
+    by closing (Err answer) placed held = tt
+    by (Ok solved) (Ok count) placed held = held
+    by (Err Contradiction) (Ok count) placed held = absurd (stopped_not_made placed)
+    by (Err (Refused why)) (Ok count) placed held = absurd (stopped_not_made placed)

@@ -1,30 +1,27 @@
-// How far the run has come: it goes on, or has ended with an answer.
+// How far the run has come: it goes on with its count of solved unknowns, or has ended with an answer.
 #![tactic(auto)]
 
-ghost use Rattle.run_close.specs.Outcome.{Counted};
-ghost use Rattle.run_progress.specs.Ran.{Places};
+ghost use Rattle.std.specs.Prelude.{◌≡◌, ◌≤◌, IfOk};
+ghost use Rattle.run_progress.specs.Ran.{ended, Places};
 
 use answer::Answer;
-use run_close::AfterClosing;
+use run_merge::Halt;
 
-// A run goes on with its count of solved unknowns, or has ended with an answer.
-#[derive(Drop)]
-pub enum Ran {
-    Going(usize),
-    Ended(Answer),
+// What a stop at an assumption answers.
+#[tactic(auto, unfolding(crate::specs::Ran::ended))]
+fn ended(place: usize, halt: Halt) -> Answer
+    ensures { result ≡ ended place halt }
+{
+    match halt {
+        Halt::Contradiction => Answer::Contradictory { place },
+        Halt::Refused(reason) => Answer::Refused { reason, place },
+    }
 }
 
 // What closing at an assumption comes to: a stop gets its place.
-pub fn placed(place: usize, closing: AfterClosing, most: usize) -> Ran
-    requires { Counted most closing }
+pub fn placed(place: usize, closing: Result<usize, Halt>, most: usize) -> Result<usize, Answer>
+    requires { IfOk closing (λ count. count ≤ most) }
     ensures { Places place closing most result }
 {
-    match closing {
-        AfterClosing::Going(solved) => Ran::Going(solved),
-        AfterClosing::Contradiction => Ran::Ended(Answer::Contradictory { place: place }),
-        AfterClosing::Refused(number) => Ran::Ended(Answer::Refused {
-            number: number,
-            place: place,
-        }),
-    }
+    closing.map_err(|halt| ended(place, halt))
 }

@@ -1,5 +1,6 @@
 -- One column of a solved form: what the rule makes of it, and the shortcuts of the product by a factor.
 -- Main results: `solved_itself`, `solved_other`, `solved_nothing`, `factor_stands`, `scaled_minus`, `scaled_one`. Assume nothing.
+use Rattle.std.specs.Prelude.{Ok}
 use mathlib.Core.Path.{◌≡◌, ap, ◌∙◌}
 use mathlib.Core.Bool.{cond}
 use Prim.Native.Nat.{ℕ}
@@ -14,7 +15,6 @@ use Rattle.fraction.specs.Limits.{tested, times, over}
 use Rattle.fraction.specs.Made.{made, ◌>>=◌}
 use Rattle.fraction.proofs.Field.{times_zero}
 use Rattle.fraction_reduce.specs.Values.{value, Stands, Answers}
-use Rattle.fraction_reduce.specs.declared.Tested.TheVariants.{Fits}
 use Rattle.fraction_reduce.proofs.Divided.{divided_negated}
 use Rattle.fraction_reduce.proofs.Operations.{good_num, good_den}
 use Rattle.fraction_reduce.proofs.Shortcuts.{word_is, times_one, times_minus}
@@ -49,11 +49,11 @@ factor_stands divided negated = record { good = negated.good; same = negated.sam
 
 -- Times -1 is the opposite, and times 1 the number itself.
 pub scaled_minus : {factor x f : Fraction} → Scalable factor x → of_z w32 factor.num ≡ of_z w32 (negsuc 0)
-    → of_z w32 factor.den ≡ of_z w32 (pos 1) → Stands f (neg_ℚ (value x)) → Answers (Fits f) (times (value factor) (value x))
+    → of_z w32 factor.den ≡ of_z w32 (pos 1) → Stands f (neg_ℚ (value x)) → Answers (Ok f) (times (value factor) (value x))
 scaled_minus asked num den opposite =
     times_minus asked.factor_good asked.number_good (word_is (negsuc 0) tt (good_num asked.factor_good) num) (word_is (pos 1) tt (good_den asked.factor_good) den) opposite
 
 pub scaled_one : {factor x : Fraction} → Scalable factor x → of_z w32 factor.num ≡ of_z w32 (pos 1)
-    → of_z w32 factor.den ≡ of_z w32 (pos 1) → Answers (Fits x) (times (value factor) (value x))
+    → of_z w32 factor.den ≡ of_z w32 (pos 1) → Answers (Ok x) (times (value factor) (value x))
 scaled_one asked num den =
     times_one asked.factor_good asked.number_good (word_is (pos 1) tt (good_num asked.factor_good) num) (word_is (pos 1) tt (good_den asked.factor_good) den)

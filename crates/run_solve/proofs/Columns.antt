@@ -1,6 +1,9 @@
 -- The loop that multiplies the columns of a difference by a factor: how it begins, what a turn makes of a column, and what it leaves.
 -- Main results: `scaling_starts`, `scaling_asks`, `scaling_stores`, `scaling_stops`, `scaling_ends`. Assume nothing.
-use mathlib.Core.Path.{◌≡◌, sym, ap, ◌∙◌, subst}
+use Rattle.std.specs.Prelude.{Err, Ok, Result, IsErrAnd}
+use Rattle.std.proofs.lemmas.Result.{err_from_is_err_and}
+use Rattle.answer.specs.declared.Reason.{Reason}
+use mathlib.Core.Path.{◌≡◌, refl, sym, ap, ◌∙◌, subst}
 use mathlib.Core.List.{List}
 use Prim.Native.Nat.{ℕ, ◌+◌, ◌≤◌, ◌<◌}
 use native.Mathlib.Nat.{zero-add}
@@ -11,11 +14,8 @@ use Rattle.set_extremes.specs.Extremes.{Next, Rest}
 use Rattle.fraction.specs.declared.Fraction.{Fraction}
 use Rattle.fraction.specs.Limits.{times}
 use Rattle.fraction_reduce.specs.Values.{value, Answers}
-use Rattle.fraction_reduce.specs.declared.Tested.{Tested}
-use Rattle.fraction_reduce.specs.declared.Tested.TheVariants.{Fits, Refused}
 use Rattle.rules_run.specs.Row.{COLUMNS}
-use Rattle.run_table.specs.declared.Step.{Step}
-use Rattle.run_table.specs.declared.Step.TheVariants.{Done, Refused as Stopped}
+use Rattle.run_table.specs.Step.{Step}
 use Rattle.run_table.specs.Held.{held_at, row_at}
 use Rattle.run_table.specs.Lists.{both}
 use Rattle.run_table.proofs.Columns.{column_held}
@@ -40,29 +40,31 @@ module _ {factor : Fraction} {set : ℕ} {nums₀ dens₀ : List ℤ} (asked : S
     pub scaling_asks : Scalable factor x
     scaling_asks = record { factor_good = asked.factor_good; number_good = going_good taking.going (taking_next taking more first) (sym (zero-add at)) read }
 
-    module _ {r : Tested} (answers : Answers r (times (value factor) (value x))) where
-      -- The loop reads a number that stands as it did when the loop began: what answers for it answers for the column.
-      column_answers : Answers r (scaled_in factor set (both nums₀ dens₀) at)
-      unfolding scaled_column
-      column_answers =
-          let next = taking_next taking more first in
-          let most = next.most in
-          let stands : held_at nums dens at ≡ held_at nums₀ dens₀ (0 + at) = ap (held_at nums dens) (sym (zero-add at)) ∙ going_reads taking.going next in
-          subst (Answers r)
-          (ap (times (value factor)) (ap value (read ∙ stands) ∙ sym (column_held nums₀ dens₀ 0 at (omega arith)))
-          ∙ sym (reached_next set (scaled_column (value factor) (row_at nums₀ dens₀ 0)) (row_at nums₀ dens₀ 0) next))
-          answers
+    -- The loop reads a number that stands as it did when the loop began: what answers for it answers for the column.
+    column_answers : {r : Result Fraction Reason} → Answers r (times (value factor) (value x)) → Answers r (scaled_in factor set (both nums₀ dens₀) at)
+    unfolding scaled_column
+    column_answers {r} answers =
+        let next = taking_next taking more first in
+        let most = next.most in
+        let stands : held_at nums dens at ≡ held_at nums₀ dens₀ (0 + at) = ap (held_at nums dens) (sym (zero-add at)) ∙ going_reads taking.going next in
+        subst (Answers r)
+        (ap (times (value factor)) (ap value (read ∙ stands) ∙ sym (column_held nums₀ dens₀ 0 at (omega arith)))
+        ∙ sym (reached_next set (scaled_column (value factor) (row_at nums₀ dens₀ 0)) (row_at nums₀ dens₀ 0) next))
+        answers
 
-      -- It is stored, and the loop goes on; or it is refused, and the loop is over.
-      pub scaling_stores : {after : ℕ} {f : Fraction} {nums' dens' : List ℤ} → Rest rest after → r ≡ Fits f
-          → nums' ≡ stored_at nums at f.num → dens' ≡ stored_at dens at f.den
-          → Taking (scaled_in factor set (both nums₀ dens₀)) 0 COLUMNS set (at + 1) after nums₀ dens₀ nums' dens'
-      scaling_stores others fits num den = taking_stores taking more first others column_answers fits (sym (zero-add at)) num den
+    -- It is stored, and the loop goes on; or it is refused, and the loop is over.
+    pub scaling_stores : {after : ℕ} {f : Fraction} {nums' dens' : List ℤ} → Rest rest after → Answers (Ok f) (times (value factor) (value x))
+        → nums' ≡ stored_at nums at f.num → dens' ≡ stored_at dens at f.den
+        → Taking (scaled_in factor set (both nums₀ dens₀)) 0 COLUMNS set (at + 1) after nums₀ dens₀ nums' dens'
+    scaling_stores others answers num den = taking_stores taking more first others (column_answers answers) refl (sym (zero-add at)) num den
 
-      pub scaling_stops : {number : ℕ} → r ≡ Refused number → ScalesRow factor set (Stopped number) (both nums₀ dens₀) (both nums dens)
-      scaling_stops refused = over (taking_stops taking more first column_answers refused)
+    pub scaling_stops : {why : Reason} {step : Step} → Answers (Err why) (times (value factor) (value x)) → IsErrAnd step (λ reason. reason ≡ why)
+        → ScalesRow factor set step (both nums₀ dens₀) (both nums dens)
+    scaling_stops {step = step} answers refused =
+        let p = err_from_is_err_and step refused in
+        rw (p.1, p.2) (over (taking_stops taking more first (column_answers answers) refl))
 
   pub scaling_ends : {c rest : ℕ} {nums dens : List ℤ}
       → Taking (scaled_in factor set (both nums₀ dens₀)) 0 COLUMNS set c rest nums₀ dens₀ nums dens → COLUMNS ≤ c
-      → ScalesRow factor set Done (both nums₀ dens₀) (both nums dens)
+      → ScalesRow factor set (Ok tt) (both nums₀ dens₀) (both nums dens)
   scaling_ends taking end = over (taking_ends taking end)

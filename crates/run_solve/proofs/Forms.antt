@@ -19,7 +19,7 @@ use Rattle.fraction.specs.Made.{made}
 use Rattle.fraction_reduce.specs.Values.{value, Good, Stands}
 use Rattle.fraction_reduce.proofs.Tests.{zero_stands}
 use Rattle.rules_run.specs.Row.{TERMS, COLUMNS, column}
-use Rattle.run_table.specs.declared.Step.{Step}
+use Rattle.run_table.specs.Step.{Step}
 use Rattle.run_table.specs.Held.{held_at, row_at}
 use Rattle.run_table.specs.Lists.{both}
 use Rattle.run_table.specs.Sets.{Within}

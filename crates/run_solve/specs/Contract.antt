@@ -3,11 +3,12 @@
 use Rattle.std.specs.Prelude.{ℕ}
 use Rattle.fraction.specs.declared.Fraction.{Fraction}
 use Rattle.fraction.specs.Exact.{ℚ}
+use Rattle.answer.specs.declared.Reason.{Reason}
 use Rattle.fraction.specs.Made.{Made}
 use Rattle.fraction_reduce.specs.Values.{value, Good}
 use Rattle.rules_run.specs.Row.{COLUMNS}
 use Rattle.rules_run.specs.Merge.{solved_column}
-use Rattle.run_table.specs.declared.Step.{Step}
+use Rattle.run_table.specs.Step.{Step}
 use Rattle.run_table.specs.Lists.{Lists, row_in, RowWithin, Unknown}
 use Rattle.run_table.specs.Loop.{RowMade}
 use Rattle.run_table.specs.Reached.{reached}
@@ -25,7 +26,7 @@ pub record ScalableRow (factor : Fraction) (set : ℕ) (d : Lists) : Type 0 wher
   pub row : RowWithin set 0 d
 
 -- the columns of the row that is multiplied
-abbrev pub scaled_in : (factor : Fraction) (set : ℕ) (d : Lists) → (c : ℕ) → Made ℕ ℚ
+abbrev pub scaled_in : (factor : Fraction) (set : ℕ) (d : Lists) → (c : ℕ) → Made Reason ℚ
 scaled_in factor set d c = reached set (scaled_column (value factor) (row_in d 0)) (row_in d 0) c
 
 -- The columns are multiplied, or one is refused; however it ends, a term's column outside the set holds 0.

@@ -8,10 +8,9 @@ ghost use Rattle.fraction_reduce.specs.Values.{value, Good, Stands, Answers};
 ghost use Rattle.run_table.specs.Lists.{both};
 ghost use Rattle.run_solve.specs.Contract.{Scalable, ScalableRow, ScalesRow, Formable, Forms};
 
+use answer::Reason;
 use fraction::Fraction;
-use fraction_reduce::Tested;
 use rules_problem::COLUMNS;
-use run_table::Step;
 
 // What divides by the coefficient k and negates, as a factor: it is the same for all columns.
 fn factor_of(k: Fraction) -> Fraction
@@ -23,23 +22,28 @@ fn factor_of(k: Fraction) -> Fraction
 }
 
 // The factor times a number of the difference. Times 1 and times -1, which are the factor of most unknowns, need no product.
-fn scaled(factor: Fraction, x: Fraction) -> Tested
+fn scaled(factor: Fraction, x: Fraction) -> Result<Fraction, Reason>
     requires { Scalable factor x }
     ensures { Answers result (times (value factor) (value x)) }
 {
     if factor.den == 1 {
         if factor.num == -1 {
-            return Tested::Fits(fraction_inverse::negated(x));
+            return Ok(fraction_inverse::negated(x));
         }
         if factor.num == 1 {
-            return Tested::Fits(x);
+            return Ok(x);
         }
     }
     fraction_product::product(factor, x)
 }
 
 // The columns of a set, and the constant's: each is multiplied by the factor.
-fn scale_columns(d_nums: &mut [i32], d_dens: &mut [i32], factor: Fraction, set: u64) -> Step
+fn scale_columns(
+    d_nums: &mut [i32],
+    d_dens: &mut [i32],
+    factor: Fraction,
+    set: u64,
+) -> Result<(), Reason>
     requires { ScalableRow factor set (both d_nums.old d_dens.old) }
     ensures { ScalesRow factor set result (both d_nums.old d_dens.old) (both d_nums.new d_dens.new) }
 {
@@ -48,21 +52,17 @@ fn scale_columns(d_nums: &mut [i32], d_dens: &mut [i32], factor: Fraction, set: 
     while c < COLUMNS {
         let at = set_extremes::first(rest);
         let x = run_table::get(d_nums, d_dens, at);
-        match scaled(factor, x) {
-            Tested::Fits(f) => {
-                run_table::put(d_nums, d_dens, at, f);
-                rest = set_extremes::rest(rest);
-                c = at + 1;
-            }
-            Tested::Refused(number) => return Step::Refused(number),
-        }
+        let f = scaled(factor, x)?;
+        run_table::put(d_nums, d_dens, at, f);
+        rest = set_extremes::rest(rest);
+        c = at + 1;
     }
-    Step::Done
+    Ok(())
 }
 
 // 01, Merge: "every other column is divided by that coefficient and negated". The form takes the difference's place; in the column of
 // the unknown itself it holds 0.
-pub fn solve_for(d_nums: &mut [i32], d_dens: &mut [i32], p: usize, set: u64) -> Step
+pub fn solve_for(d_nums: &mut [i32], d_dens: &mut [i32], p: usize, set: u64) -> Result<(), Reason>
     requires { Formable p set (both d_nums.old d_dens.old) }
     ensures { Forms p set result (both d_nums.old d_dens.old) (both d_nums.new d_dens.new) }
 {

@@ -1,5 +1,6 @@
 -- What the values fix: lists that hold the same values, in lowest terms and within the limits, hold the same numbers.
 -- Main results: `step_determined`, `done_determined`, `row_determined`, `table_determined`, `kept_both`, `lists_determined`, `row_made_unique`. Assume nothing.
+use Rattle.std.specs.Prelude.{Err, Ok}
 use mathlib.Core.Path.{◌≡◌, refl, sym, ap, ◌∙◌}
 use mathlib.Core.Logic.{inl, inr}
 use mathlib.Core.List.{List}
@@ -9,33 +10,33 @@ use native.Mathlib.Omega.{arith}
 use lib.Seq.{ext_get_or}
 use lib.IntN.{ℤ, pos}
 use Rattle.fraction.specs.Exact.{ℚ}
+use Rattle.answer.specs.declared.Reason.{Reason}
 use Rattle.fraction.specs.Made.{Made, made, stopped}
 use Rattle.fraction_reduce.proofs.Lowest.{value_one_to_one}
 use Rattle.rules_run.specs.Row.{column, row_of}
-use Rattle.run_table.specs.declared.Step.{Step}
-use Rattle.run_table.specs.declared.Step.TheVariants.{Done, Refused}
+use Rattle.run_table.specs.Step.{Step}
 use Rattle.run_table.specs.Held.{held_at, row_at, table_at, SoundTo, stepped}
 use Rattle.run_table.specs.Loop.{Kept, RowMade}
 use Rattle.run_table.proofs.Columns.{column_held, row_held_lem}
 use Rattle.run_table.proofs.Turns.{stepped_done}
 
-step_of {ℓ} : {A : Type ℓ} → Made ℕ A → Step
-step_of (made a) = Done
-step_of (stopped number) = Refused number
+step_of {ℓ} : {A : Type ℓ} → Made Reason A → Step
+step_of (made a) = (Ok tt)
+step_of (stopped why) = Err why
 
 step_back {ℓ} : {A : Type ℓ} (step : Step) (a : A) → step_of (stepped step a) ≡ step
 unfolding stepped step_of
-step_back Done a = refl
-step_back (Refused number) a = refl
+step_back (Ok tt) a = refl
+step_back (Err why) a = refl
 
 -- What the rule makes fixes how a step ends, and what it leaves where it is done.
-pub step_determined {ℓ} : {A : Type ℓ} {m : Made ℕ A} (r s : Step) (a b : A) → m ≡ stepped r a → m ≡ stepped s b → r ≡ s
+pub step_determined {ℓ} : {A : Type ℓ} {m : Made Reason A} (r s : Step) (a b : A) → m ≡ stepped r a → m ≡ stepped s b → r ≡ s
 step_determined r s a b p q = sym (step_back r a) ∙ ap step_of (sym p ∙ q) ∙ step_back s b
 
-pub done_determined {ℓ} : {A : Type ℓ} {m : Made ℕ A} (r s : Step) (a b : A) → m ≡ stepped r a → m ≡ stepped s b → r ≡ Done → a ≡ b
+pub done_determined {ℓ} : {A : Type ℓ} {m : Made Reason A} (r s : Step) (a b : A) → m ≡ stepped r a → m ≡ stepped s b → r ≡ Ok tt → a ≡ b
 done_determined r s a b p q done =
-    let first : ◌≡◌ {A = Made ℕ _} _ (made a) = stepped_done p done in
-    let second : ◌≡◌ {A = Made ℕ _} _ (made b) = stepped_done q (sym (step_determined r s a b p q) ∙ done) in
+    let first : ◌≡◌ {A = Made Reason _} _ (made a) = stepped_done p done in
+    let second : ◌≡◌ {A = Made Reason _} _ (made b) = stepped_done q (sym (step_determined r s a b p q) ∙ done) in
     cc
 
 module _ {nums dens nums' dens' : List ℤ} where
@@ -80,7 +81,7 @@ module _ {nums dens nums' dens' : List ℤ} where
 
 -- A row that the rule makes leaves one way for the step to end, and one content for the lists where it is done. (Where it is
 -- refused, the row's own places may hold anything that is sound.)
-pub row_made_unique : {g : ℕ → Made ℕ ℚ} {base m : ℕ} {r s : Step} {nums₀ dens₀ nums dens nums' dens' : List ℤ} → base + 65 ≤ m → RowMade g base m r nums₀ dens₀ nums dens → RowMade g base m s nums₀ dens₀ nums' dens' → (r ≡ s) × (r ≡ Done → (nums ≡ nums') × (dens ≡ dens'))
+pub row_made_unique : {g : ℕ → Made Reason ℚ} {base m : ℕ} {r s : Step} {nums₀ dens₀ nums dens nums' dens' : List ℤ} → base + 65 ≤ m → RowMade g base m r nums₀ dens₀ nums dens → RowMade g base m s nums₀ dens₀ nums' dens' → (r ≡ s) × (r ≡ Ok tt → (nums ≡ nums') × (dens ≡ dens'))
 row_made_unique {base = base} {r = r} {s = s} {nums = nums} {dens = dens} {nums' = nums'} {dens' = dens'} room first second = (
   step_determined r s (row_at nums dens base) (row_at nums' dens' base) first.ends second.ends,
   λ done. lists_determined first.kept second.kept λ k above below.

@@ -2,6 +2,7 @@
 -- every other column what stands there: how such a loop begins, stores a column, passes over one, is refused one, and ends.
 -- Main definitions: `Leaves`, `Spared`, `Going`, `Taking`, `Gone`. Main results: `going_starts`, `going_stores`, `going_passes`,
 -- `going_stops`, `going_ends`, the same of `taking`, and `gone_within`. Assume nothing.
+use Rattle.std.specs.Prelude.{Err, Ok, Result}
 use mathlib.Core.Path.{◌≡◌, refl, sym, ap, ◌∙◌, subst}
 use mathlib.Core.Logic.{inr, ◌≢◌}
 use mathlib.Core.Bool.{false, false≢true}
@@ -15,13 +16,11 @@ use Rattle.set_extremes.specs.Extremes.{Next, Rest}
 use Rattle.set_extremes.proofs.Taken.{From, from_starts, from_first, from_rest}
 use Rattle.fraction.specs.declared.Fraction.{Fraction}
 use Rattle.fraction.specs.Exact.{ℚ}
+use Rattle.answer.specs.declared.Reason.{Reason}
 use Rattle.fraction.specs.Made as rule
 use Rattle.fraction_reduce.specs.Values.{value, Good, Answers}
-use Rattle.fraction_reduce.specs.declared.Tested.{Tested}
-use Rattle.fraction_reduce.specs.declared.Tested.TheVariants.{Fits, Refused}
 use Rattle.rules_run.specs.Row.{TERMS, COLUMNS}
-use Rattle.run_table.specs.declared.Step.{Step}
-use Rattle.run_table.specs.declared.Step.TheVariants.{Done, Refused as Stopped}
+use Rattle.run_table.specs.Step.{Step}
 use Rattle.run_table.specs.Held.{held_at, SoundTo}
 use Rattle.run_table.specs.Loop.{Making, RowMade}
 use Rattle.run_table.specs.Sets.{Within}
@@ -30,7 +29,7 @@ use Rattle.run_table.proofs.Sparse.{making_skips}
 use Rattle.run_table.proofs.Turns.{turn_stores, turn_stops, turns_end}
 
 -- Outside the set, the rule makes of a term's column what stands there.
-pub record Leaves (g : ℕ → rule.Made ℕ ℚ) (set base : ℕ) (nums dens : List ℤ) : Type 0 where
+pub record Leaves (g : ℕ → rule.Made Reason ℚ) (set base : ℕ) (nums dens : List ℤ) : Type 0 where
   pub stands : (c : ℕ) → c < TERMS → holds set c ≡ false → g c ≡ rule.made (value (held_at nums dens (base + c)))
 
 -- Outside the set, a term's column of the row at `base` holds what it held.
@@ -39,7 +38,7 @@ pub record Spared (set base : ℕ) (nums₀ dens₀ nums dens : List ℤ) : Type
 
 -- In such a loop, before a turn: the columns below c are made by the rule g, nothing else has changed, all that was written is in a
 -- column of the set or the constant's, and the first m places are sound.
-pub record Going (g : ℕ → rule.Made ℕ ℚ) (base m set c : ℕ) (nums₀ dens₀ nums dens : List ℤ) : Type 0 where
+pub record Going (g : ℕ → rule.Made Reason ℚ) (base m set c : ℕ) (nums₀ dens₀ nums dens : List ℤ) : Type 0 where
   pub reach : c ≤ COLUMNS
   pub nums_fit : base + COLUMNS ≤ length nums₀
   pub dens_fit : base + COLUMNS ≤ length dens₀
@@ -49,16 +48,16 @@ pub record Going (g : ℕ → rule.Made ℕ ℚ) (base m set c : ℕ) (nums₀ d
   pub spared : Spared set base nums₀ dens₀ nums dens
 
 -- The same of a loop that keeps the rest of the set: `rest` has its numbers from c on.
-pub record Taking (g : ℕ → rule.Made ℕ ℚ) (base m set c rest : ℕ) (nums₀ dens₀ nums dens : List ℤ) : Type 0 where
+pub record Taking (g : ℕ → rule.Made Reason ℚ) (base m set c rest : ℕ) (nums₀ dens₀ nums dens : List ℤ) : Type 0 where
   pub going : Going g base m set c nums₀ dens₀ nums dens
   pub from : From set c rest
 
 -- The loop is over: the row is the one that the rule makes, or the rule refuses it, and outside the set nothing was written.
-pub record Gone (g : ℕ → rule.Made ℕ ℚ) (base m set : ℕ) (step : Step) (nums₀ dens₀ nums dens : List ℤ) : Type 0 where
+pub record Gone (g : ℕ → rule.Made Reason ℚ) (base m set : ℕ) (step : Step) (nums₀ dens₀ nums dens : List ℤ) : Type 0 where
   pub row_made : RowMade g base m step nums₀ dens₀ nums dens
   pub spared : Spared set base nums₀ dens₀ nums dens
 
-module _ {g : ℕ → rule.Made ℕ ℚ} {base m set : ℕ} {nums₀ dens₀ : List ℤ} where
+module _ {g : ℕ → rule.Made Reason ℚ} {base m set : ℕ} {nums₀ dens₀ : List ℤ} where
   pub going_starts : base + COLUMNS ≤ length nums₀ → base + COLUMNS ≤ length dens₀ → base + COLUMNS ≤ m → SoundTo m nums₀ dens₀
       → Leaves g set base nums₀ dens₀ → Going g base m set 0 nums₀ dens₀ nums₀ dens₀
   going_starts nums_fit dens_fit sound_fit sound leaves =
@@ -91,7 +90,7 @@ module _ {g : ℕ → rule.Made ℕ ℚ} {base m set : ℕ} {nums₀ dens₀ : L
         false≢true (sym out ∙ ap (holds set) here ∙ next.inside (omega arith))
 
     -- A turn stores what answers the rule's column: one column more is made.
-    pub going_stores : {r : Tested} {f : Fraction} {place : ℕ} {nums' dens' : List ℤ} → Answers r (g at) → r ≡ Fits f → place ≡ base + at
+    pub going_stores : {r : Result Fraction Reason} {f : Fraction} {place : ℕ} {nums' dens' : List ℤ} → Answers r (g at) → r ≡ Ok f → place ≡ base + at
         → nums' ≡ stored_at nums place f.num → dens' ≡ stored_at dens place f.den
         → Going g base m set (at + 1) nums₀ dens₀ nums' dens'
     going_stores {f = f} {place} answers fits there num den =
@@ -122,13 +121,13 @@ module _ {g : ℕ → rule.Made ℕ ℚ} {base m set : ℕ} {nums₀ dens₀ : L
         }
 
     -- A turn is refused its column: so is the row.
-    pub going_stops : {r : Tested} {number : ℕ} → Answers r (g at) → r ≡ Refused number
-        → Gone g base m set (Stopped number) nums₀ dens₀ nums dens
+    pub going_stops : {r : Result Fraction Reason} {why : Reason} → Answers r (g at) → r ≡ Err why
+        → Gone g base m set (Err why) nums₀ dens₀ nums dens
     going_stops answers refused = record { row_made = turn_stops going_skips answers refused (omega (arith, next.most)); spared = going.spared }
 
   -- After the constant's column the row is made.
   pub going_ends : {c : ℕ} {nums dens : List ℤ} → Going g base m set c nums₀ dens₀ nums dens → COLUMNS ≤ c
-      → Gone g base m set Done nums₀ dens₀ nums dens
+      → Gone g base m set (Ok tt) nums₀ dens₀ nums dens
   going_ends going over = record { row_made = turns_end going.making going.reach over; spared = going.spared }
 
   -- The same of a loop that keeps the rest of the set.
@@ -153,8 +152,8 @@ module _ {g : ℕ → rule.Made ℕ ℚ} {base m set : ℕ} {nums₀ dens₀ : L
     pub taking_less : COLUMNS - (at + 1) < COLUMNS - c
     taking_less = omega (arith, taking_next.forward, first.most)
 
-    pub taking_stores : {after : ℕ} {r : Tested} {f : Fraction} {place : ℕ} {nums' dens' : List ℤ} → Rest rest after → Answers r (g at)
-        → r ≡ Fits f → place ≡ base + at → nums' ≡ stored_at nums place f.num → dens' ≡ stored_at dens place f.den
+    pub taking_stores : {after : ℕ} {r : Result Fraction Reason} {f : Fraction} {place : ℕ} {nums' dens' : List ℤ} → Rest rest after → Answers r (g at)
+        → r ≡ Ok f → place ≡ base + at → nums' ≡ stored_at nums place f.num → dens' ≡ stored_at dens place f.den
         → Taking g base m set (at + 1) after nums₀ dens₀ nums' dens'
     taking_stores left answers fits there num den =
         record { going = going_stores taking.going taking_next answers fits there num den; from = from_rest (omega arith) taking.from first left }
@@ -163,15 +162,15 @@ module _ {g : ℕ → rule.Made ℕ ℚ} {base m set : ℕ} {nums₀ dens₀ : L
         → Taking g base m set (at + 1) after nums₀ dens₀ nums dens
     taking_passes left stands = record { going = going_passes taking.going taking_next stands; from = from_rest (omega arith) taking.from first left }
 
-    pub taking_stops : {r : Tested} {number : ℕ} → Answers r (g at) → r ≡ Refused number
-        → Gone g base m set (Stopped number) nums₀ dens₀ nums dens
+    pub taking_stops : {r : Result Fraction Reason} {why : Reason} → Answers r (g at) → r ≡ Err why
+        → Gone g base m set (Err why) nums₀ dens₀ nums dens
     taking_stops answers refused = going_stops taking.going taking_next answers refused
 
   pub taking_ends : {c rest : ℕ} {nums dens : List ℤ} → Taking g base m set c rest nums₀ dens₀ nums dens → COLUMNS ≤ c
-      → Gone g base m set Done nums₀ dens₀ nums dens
+      → Gone g base m set (Ok tt) nums₀ dens₀ nums dens
   taking_ends taking over = going_ends taking.going over
 
 -- A row that was within the set before the loop is so after it.
-pub gone_within : {g : ℕ → rule.Made ℕ ℚ} {base m set : ℕ} {step : Step} {nums₀ dens₀ nums dens : List ℤ}
+pub gone_within : {g : ℕ → rule.Made Reason ℚ} {base m set : ℕ} {step : Step} {nums₀ dens₀ nums dens : List ℤ}
     → Gone g base m set step nums₀ dens₀ nums dens → Within set base nums₀ → Within set base nums
 gone_within gone within = record { zero = λ c below out. ap (λ f. f.num) (gone.spared.same c below out) ∙ within.zero c below out }

@@ -17,10 +17,11 @@ use Rattle.set_members.specs.Sets.{holds}
 use Rattle.set_extremes.specs.Extremes.{Next}
 use Rattle.fraction.specs.declared.Fraction.{Fraction}
 use Rattle.fraction.specs.Exact.{ℚ, zero_ℚ}
+use Rattle.answer.specs.declared.Reason.{Reason}
 use Rattle.fraction.specs.Made.{Made, made, ◌>>=◌, tab}
 use Rattle.fraction_reduce.specs.Values.{value, Good}
 use Rattle.rules_run.specs.Row.{COLUMNS, constant, Row, column, row}
-use Rattle.run_table.specs.declared.Step.{Step}
+use Rattle.run_table.specs.Step.{Step}
 use Rattle.run_table.specs.Held.{held_at, row_at, SoundTo}
 use Rattle.run_table.specs.Loop.{Kept, RowMade}
 use Rattle.run_table.specs.Reached.{reached}
@@ -28,7 +29,7 @@ use Rattle.run_table.proofs.Columns.{column_held, kept_then}
 use Rattle.run_table.proofs.OverSet.{Leaves}
 use Rattle.run_table.proofs.Rows.{held_same, held_other}
 
-module _ (set : ℕ) (h : ℕ → Made ℕ ℚ) (r : Row) where
+module _ (set : ℕ) (h : ℕ → Made Reason ℚ) (r : Row) where
   made_there : {c : ℕ} → (holds set c || eqb c constant) ≡ true → reached set h r c ≡ h c
   unfolding reached
   made_there {c} there = ap (λ b. cond b (h c) (made (column r c))) there
@@ -55,7 +56,7 @@ module _ (set : ℕ) (h : ℕ → Made ℕ ℚ) (r : Row) where
       ap (λ b. cond (b || eqb c 64) (h c) (made (column r c))) out ∙ ap (λ b. cond b (h c) (made (column r c))) (ne_eqb c 64 (λ e. omega arith))
 
 -- So the rule leaves what stands there.
-pub reached_leaves : (h : ℕ → Made ℕ ℚ) (set base : ℕ) (nums dens : List ℤ)
+pub reached_leaves : (h : ℕ → Made Reason ℚ) (set base : ℕ) (nums dens : List ℤ)
     → Leaves (reached set h (row_at nums dens base)) set base nums dens
 reached_leaves h set base nums dens =
     record { stands = λ c below out. reached_out set h (row_at nums dens base) c below out ∙ ap made (column_held nums dens base c (omega arith)) }
@@ -104,7 +105,7 @@ tab_alike g h (suc count) from all =
     let later = tab_alike g h count (suc from) (λ i below. rw (suc-add, ← add-suc) (all (suc i) (omega arith))) in
     rw (here, later)
 
-row_alike : (g h : ℕ → Made ℕ ℚ) → ((c : ℕ) → c < 65 → g c ≡ h c) → row g ≡ row h
+row_alike : (g h : ℕ → Made Reason ℚ) → ((c : ℕ) → c < 65 → g c ≡ h c) → row g ≡ row h
 unfolding row
 row_alike g h all = tab_alike g h COLUMNS 0 (λ c below. rw zero-add (all c below))
 
@@ -117,7 +118,7 @@ module _ (p base : ℕ) {f : Fraction} {nums₀ dens₀ nums₁ dens₁ : List �
 
   -- A rule that makes 0 in column p, makes the columns of the set as h does, and leaves all others: its row is made by 0 in column p
   -- and a loop over the rest.
-  module _ {g h : ℕ → Made ℕ ℚ} (set others : ℕ) (without : (c : ℕ) → holds others c ≡ (not (eqb c p) && holds set c))
+  module _ {g h : ℕ → Made Reason ℚ} (set others : ℕ) (without : (c : ℕ) → holds others c ≡ (not (eqb c p) && holds set c))
       (nought : value f ≡ zero_ℚ) (solved : g p ≡ made zero_ℚ) (turns : (c : ℕ) → c < 65 → c ≢ p → g c ≡ h c)
       (stands : (c : ℕ) → c < 64 → c ≢ p → holds set c ≡ false → g c ≡ made (column (row_at nums₀ dens₀ base) c)) where
     alike : (c : ℕ) → c < 65 → Dec (c ≡ p) → Dec (c < 64) → g c ≡ reached others h (row_at nums₁ dens₁ base) c

@@ -1,5 +1,6 @@
 -- Loops over the columns of one row: how they begin, go on, end and stop.
 -- Main results: `tab_listed`, `making_starts`, `making_goes_on`, `making_ends`, `making_stops`. Assume nothing.
+use Rattle.std.specs.Prelude.{Err, Ok}
 use mathlib.Core.Path.{◌≡◌, refl, sym, ap, ◌∙◌, subst}
 use mathlib.Core.Logic.{◌⊎◌, inl, inr, ◌≢◌}
 use mathlib.Core.List.{List}
@@ -12,11 +13,11 @@ use lib.Seq.{get_or-set_same, get_or-set_other}
 use lib.IntN.{ℤ, pos}
 use Rattle.fraction.specs.declared.Fraction.{Fraction}
 use Rattle.fraction.specs.Exact.{ℚ}
+use Rattle.answer.specs.declared.Reason.{Reason}
 use Rattle.fraction.specs.Made.{Made, made, stopped, ◌>>=◌, tab}
 use Rattle.fraction.proofs.Making.{tab_stopped}
 use Rattle.fraction_reduce.specs.Values.{value, Good}
 use Rattle.rules_run.specs.Row.{COLUMNS, row}
-use Rattle.run_table.specs.declared.Step.TheVariants.{Done, Refused}
 use Rattle.run_table.specs.Held.{held_at, listed_from, row_at, SoundTo, stepped}
 use Rattle.run_table.specs.Loop.{Making, RowMade}
 
@@ -45,7 +46,7 @@ sound_set m nums dens k f n d good sound = record { good = λ l below. by l belo
     by l below (yes same) = subst Good (sym (ap (held_at (set nums k f.num) (set dens k f.den)) same ∙ held_same nums dens k f n d)) good
     by l below (no other) = subst Good (sym (held_other nums dens k l f other)) (sound.good l below)
 
-module _ (g : ℕ → Made ℕ ℚ) (base m : ℕ) (nums₀ dens₀ : List ℤ) where
+module _ (g : ℕ → Made Reason ℚ) (base m : ℕ) (nums₀ dens₀ : List ℤ) where
   pub making_starts : SoundTo m nums₀ dens₀ → Making g base m 0 nums₀ dens₀ nums₀ dens₀
   making_starts sound =
       record {
@@ -83,7 +84,7 @@ module _ (g : ℕ → Made ℕ ℚ) (base m : ℕ) (nums₀ dens₀ : List ℤ) 
           making.made_below c (omega arith) ∙ ap (λ x. made (value x)) (sym (held_other nums dens (base + j) (base + c) f (λ e. other (omega arith))))
 
   -- All columns are made: the row is.
-  pub making_ends : {nums dens : List ℤ} → Making g base m COLUMNS nums₀ dens₀ nums dens → RowMade g base m Done nums₀ dens₀ nums dens
+  pub making_ends : {nums dens : List ℤ} → Making g base m COLUMNS nums₀ dens₀ nums dens → RowMade g base m (Ok tt) nums₀ dens₀ nums dens
   unfolding row row_at stepped
   making_ends {nums} {dens} making =
       record {
@@ -93,11 +94,11 @@ module _ (g : ℕ → Made ℕ ℚ) (base m : ℕ) (nums₀ dens₀ : List ℤ) 
       }
 
   -- The rule refuses a column: it refuses the row.
-  pub making_stops : {nums dens : List ℤ} (j number : ℕ) → j < COLUMNS → g j ≡ stopped number → Making g base m j nums₀ dens₀ nums dens → RowMade g base m (Refused number) nums₀ dens₀ nums dens
+  pub making_stops : {nums dens : List ℤ} (j : ℕ) (why : Reason) → j < COLUMNS → g j ≡ stopped why → Making g base m j nums₀ dens₀ nums dens → RowMade g base m (Err why) nums₀ dens₀ nums dens
   unfolding row stepped
-  making_stops {nums} {dens} j number below stops making =
+  making_stops {nums} {dens} j why below stops making =
       record {
-        ends = tab_stopped g COLUMNS 0 j number below (λ c h. (value (held_at nums dens (base + c)), rw zero-add (making.made_below c h))) (rw zero-add stops);
+        ends = tab_stopped g COLUMNS 0 j why below (λ c h. (value (held_at nums dens (base + c)), rw zero-add (making.made_below c h))) (rw zero-add stops);
         kept = record { nums_length = making.kept.nums_length; dens_length = making.kept.dens_length; outside = λ k h. making.kept.outside k (wider k h) };
         sound = making.sound;
       }

@@ -1,6 +1,7 @@
 -- What two answers to one call of a step have alike, as the laws of uniqueness say it.
 -- Main definitions: `SameEnd`, `SameLinks`. Main results: `kept_alike`, `row_same_end`, `table_same_end`, `within_alike`, `stirred_alike`.
 -- Assume nothing.
+use Rattle.std.specs.Prelude.{Ok}
 use mathlib.Core.Path.{◌≡◌, sym, ◌∙◌}
 use mathlib.Core.Logic.{◌≢◌}
 use mathlib.Core.List.{List}
@@ -9,11 +10,11 @@ use native.Mathlib.Omega.{arith}
 use lib.IntN.{ℤ}
 use lib.ListN.{length, get_or}
 use Rattle.fraction.specs.Exact.{ℚ}
+use Rattle.answer.specs.declared.Reason.{Reason}
 use Rattle.fraction.specs.Made.{Made}
 use Rattle.fraction_reduce.proofs.Lowest.{value_one_to_one}
 use Rattle.rules_run.specs.Row.{Table, TERMS, COLUMNS}
-use Rattle.run_table.specs.declared.Step.{Step}
-use Rattle.run_table.specs.declared.Step.TheVariants.{Done}
+use Rattle.run_table.specs.Step.{Step}
 use Rattle.run_table.specs.Held.{table_at, SoundTo, stepped}
 use Rattle.run_table.specs.Lists.{Lists}
 use Rattle.run_table.specs.Loop.{Kept, RowMade}
@@ -26,7 +27,7 @@ use Rattle.run_table.proofs.Sparse.{within_value}
 -- have the same lengths, and differ at most in the places from `base` up to `end`.
 pub record SameEnd (base end : ℕ) (r s : Step) (l m : Lists) : Type 0 where
   pub answer : r ≡ s
-  pub done : r ≡ Done → (l.nums ≡ m.nums) × (l.dens ≡ m.dens)
+  pub done : r ≡ Ok tt → (l.nums ≡ m.nums) × (l.dens ≡ m.dens)
   pub kept : Kept base end l.nums l.dens m.nums m.dens
 
 -- Lists that keep the places of the same lists keep each other's.
@@ -40,7 +41,7 @@ kept_alike first second =
     }
 
 -- A row that a rule makes ends one way.
-pub row_same_end : {g : ℕ → Made ℕ ℚ} {base m : ℕ} {r s : Step} {nums₀ dens₀ : List ℤ} {new new' : Lists} → base + COLUMNS ≤ m
+pub row_same_end : {g : ℕ → Made Reason ℚ} {base m : ℕ} {r s : Step} {nums₀ dens₀ : List ℤ} {new new' : Lists} → base + COLUMNS ≤ m
     → RowMade g base m r nums₀ dens₀ new.nums new.dens → RowMade g base m s nums₀ dens₀ new'.nums new'.dens
     → SameEnd base (base + COLUMNS) r s new new'
 row_same_end room first second =
@@ -48,7 +49,7 @@ row_same_end room first second =
     record { answer = same.0; done = same.1; kept = kept_alike first.kept second.kept }
 
 -- So does a table of n rows.
-pub table_same_end : {rule : Made ℕ Table} (n : ℕ) {r s : Step} {nums₀ dens₀ : List ℤ} {new new' : Lists}
+pub table_same_end : {rule : Made Reason Table} (n : ℕ) {r s : Step} {nums₀ dens₀ : List ℤ} {new new' : Lists}
     → rule ≡ stepped r (table_at n new.nums new.dens) → rule ≡ stepped s (table_at n new'.nums new'.dens)
     → Kept 0 (COLUMNS * n) nums₀ dens₀ new.nums new.dens → Kept 0 (COLUMNS * n) nums₀ dens₀ new'.nums new'.dens
     → SoundTo (COLUMNS * n) new.nums new.dens → SoundTo (COLUMNS * n) new'.nums new'.dens → SameEnd 0 (COLUMNS * n) r s new new'

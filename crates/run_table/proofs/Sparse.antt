@@ -14,6 +14,7 @@ use mir.Syntax.{w32}
 use mir.Val.{of_z}
 use Rattle.fraction.specs.declared.Fraction.{Fraction}
 use Rattle.fraction.specs.Exact.{ℚ, zero_ℚ}
+use Rattle.answer.specs.declared.Reason.{Reason}
 use Rattle.fraction.specs.Made.{Made, made}
 use Rattle.fraction_reduce.specs.Values.{value, Good}
 use Rattle.fraction_reduce.proofs.Tests.{zero_value}
@@ -24,7 +25,7 @@ use Rattle.run_table.specs.Loop.{Making}
 use Rattle.run_table.specs.Sets.{Within, Stirred}
 
 -- Columns that the rule leaves as they are need no turn.
-pub making_skips : {g : ℕ → Made ℕ ℚ} {base m j : ℕ} (i : ℕ) {nums₀ dens₀ nums dens : List ℤ} → j ≤ i → ((c : ℕ) → j ≤ c → c < i → g c ≡ made (value (held_at nums₀ dens₀ (base + c)))) → Making g base m j nums₀ dens₀ nums dens → Making g base m i nums₀ dens₀ nums dens
+pub making_skips : {g : ℕ → Made Reason ℚ} {base m j : ℕ} (i : ℕ) {nums₀ dens₀ nums dens : List ℤ} → j ≤ i → ((c : ℕ) → j ≤ c → c < i → g c ≡ made (value (held_at nums₀ dens₀ (base + c)))) → Making g base m j nums₀ dens₀ nums dens → Making g base m i nums₀ dens₀ nums dens
 making_skips {g} {base} {m} {j} i {nums₀} {dens₀} {nums} {dens} on stays making =
     record {
       kept = record { nums_length = making.kept.nums_length; dens_length = making.kept.dens_length; outside = λ k h. making.kept.outside k (wider k h) };

@@ -1,12 +1,12 @@
 -- The table as the two lent lists hold it.
 -- Main definitions: `held_at`, `row_at`, `table_at`, `SoundTo`, `stepped`. Assumes nothing.
-use Rattle.std.specs.Prelude.{List, [], ◌∷◌, ℕ, zero, suc, ◌+◌, ◌*◌, ◌<◌, get_or, ℤ, pos}
+use Rattle.std.specs.Prelude.{List, [], ◌∷◌, ℕ, zero, suc, ◌+◌, ◌*◌, ◌<◌, get_or, ℤ, pos, Err, Ok}
 use Rattle.fraction.specs.declared.Fraction.{Fraction}
+use Rattle.answer.specs.declared.Reason.{Reason}
 use Rattle.fraction.specs.Made.{Made, made, stopped}
 use Rattle.fraction_reduce.specs.Values.{value, Good}
 use Rattle.rules_run.specs.Row.{Row, Table, COLUMNS}
-use Rattle.run_table.specs.declared.Step.{Step}
-use Rattle.run_table.specs.declared.Step.TheVariants.{Done, Refused}
+use Rattle.run_table.specs.Step.{Step}
 
 -- the fraction struct at place k of the lists
 abbrev pub held_at : (nums dens : List ℤ) → (k : ℕ) → Fraction
@@ -30,6 +30,6 @@ pub record SoundTo (m : ℕ) (nums dens : List ℤ) : Type 0 where
   pub good : (k : ℕ) → k < m → Good (held_at nums dens k)
 
 -- what a step that writes into the lists makes: what they hold then, or the number of the refusal
-unfoldable pub stepped {ℓ} : {A : Type ℓ} → Step → A → Made ℕ A
-stepped Done a = made a
-stepped (Refused number) a = stopped number
+unfoldable pub stepped {ℓ} : {A : Type ℓ} → Step → A → Made Reason A
+stepped (Ok tt) a = made a
+stepped (Err why) a = stopped why

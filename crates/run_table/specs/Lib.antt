@@ -4,4 +4,5 @@ pub mod Loop
 pub mod Notes
 pub mod Reached
 pub mod Sets
+pub mod Step
 pub mod Work

@@ -19,13 +19,6 @@ pub const PENDING: usize = 3 * TERMS;
 
 pub const OPEN: usize = 3 * TERMS + 1;
 
-// A step that writes into the lists is done, or refused with a number.
-#[derive(Drop)]
-pub enum Step {
-    Done,
-    Refused(u8),
-}
-
 pub fn get(nums: &[i32], dens: &[i32], k: usize) -> Fraction
     requires { (k < length nums.now) × (k < length dens.now) }
     ensures { result ≡ held_at nums.now dens.now k }

@@ -1,5 +1,5 @@
 -- The greatest number of a set below an end.
--- Main results: `top_last`, `last_all`, `last_below`, `last_determined`. Assume nothing.
+-- Main results: `leading_within`, `top_last`, `last_all`, `last_below`, `last_determined`. Assume nothing.
 use mathlib.Core.Path.{◌≡◌, sym, ap, ◌∙◌, subst}
 use mathlib.Core.Bool.{true, false, ◌&&◌, and-true, and-false, false≢true, true≢false}
 use Prim.Native.Nat.{ℕ, zero, suc, ◌+◌, ◌-◌, ◌*◌, ◌%◌, ◌^◌, ◌<◌, ◌≤◌}
@@ -7,7 +7,7 @@ use native.Mathlib.Nat.{pow-suc, div-eq_of_lt-le}
 use native.Mathlib.Decide.{dec_lt}
 use native.Mathlib.Omega.{arith}
 use lib.Bits.{bit_and}
-use lib.Count.{count_leading_zeros, leading_length}
+use lib.Count.{count_leading_zeros, leading_length, leading_le}
 use lib.Dec.{eqb}
 use lib.Pow.{pow_pos}
 use Rattle.set_members.specs.Sets.{holds}
@@ -22,6 +22,9 @@ highest_inside set i small large =
     let low : 1 * 2 ^ i ≤ set = omega arith in
     let high : set < (1 + 1) * 2 ^ i = omega arith in
     ap (λ x. eqb (x % 2) 1) (div-eq_of_lt-le (2 ^ i) low high)
+
+pub leading_within : (set : ℕ) → count_leading_zeros 64 set ≤ 64
+leading_within set = leading_le 64 set
 
 -- The digits below the zeros at the head of a number reach as far as its set does.
 pub top_last : (set : ℕ) → set < 2 ^ 64 → Last set 64 (64 - count_leading_zeros 64 set)

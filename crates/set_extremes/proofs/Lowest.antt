@@ -1,15 +1,15 @@
 -- The least number of a set.
--- Main result: `lowest`. Assumes nothing.
+-- Main results: `lowest`, `trailing_within`, `least_below`. Assume nothing.
 use mathlib.Core.Path.{◌≡◌, refl, ap, ◌∙◌}
 use mathlib.Core.Bool.{false}
-use Prim.Native.Nat.{ℕ, zero, suc, ◌/◌, ◌%◌, ◌^◌, ◌<◌}
+use Prim.Native.Nat.{ℕ, zero, suc, ◌/◌, ◌%◌, ◌^◌, ◌<◌, ◌≤◌}
 use native.Mathlib.Nat.{pow-suc}
 use native.Mathlib.Omega.{arith}
 use lib.Dec.{eqb}
-use lib.Count.{count_trailing_zeros, under}
+use lib.Count.{count_trailing_zeros, under, trailing_le}
 use Rattle.set_members.specs.Sets.{holds}
 use Rattle.set_members.proofs.Digits.{holds_zero, holds_suc}
-use Rattle.set_extremes.specs.Extremes.{Least}
+use Rattle.set_extremes.specs.Extremes.{Least, LeastBelow}
 
 -- 0 is the least number in a set of an odd number.
 least_odd : (set : ℕ) → set % 2 ≡ 1 → Least set 0
@@ -40,3 +40,9 @@ lowest (suc width) set some small = by (set % 2) refl (lowest width (set / 2))
         let found = rest (omega arith) half in
         (omega (arith, found.0), least_even set (count_trailing_zeros width (set / 2)) even found.1)
     by (suc last) odd rest = (omega arith, least_odd set (omega arith))
+
+pub trailing_within : (set : ℕ) → count_trailing_zeros 64 set ≤ 64
+trailing_within set = trailing_le 64 set
+
+pub least_below : {set : ℕ} → 0 < set → set < 2 ^ 64 → LeastBelow set (count_trailing_zeros 64 set)
+least_below some small = let found = lowest 64 _ some small in record { below = found.0; least = found.1 }

@@ -8,6 +8,7 @@ ghost use Rattle.set_members.specs.Sets.{holds};
 pub const ALL: u64 = 18446744073709551615;
 
 // The set and one number more.
+#[tactic(auto, using(crate::proofs::Digits::holds_with))]
 pub fn with(set: u64, i: usize) -> u64
     requires { i < 64 }
     ensures { (k : ℕ) → holds result k ≡ (eqb k i || holds set k) }
@@ -16,6 +17,7 @@ pub fn with(set: u64, i: usize) -> u64
 }
 
 // The numbers of either set.
+#[tactic(auto, using(crate::proofs::Digits::holds_or))]
 pub fn union(a: u64, b: u64) -> u64
     ensures { (k : ℕ) → holds result k ≡ (holds a k || holds b k) }
 {
@@ -23,6 +25,7 @@ pub fn union(a: u64, b: u64) -> u64
 }
 
 // The numbers of both sets.
+#[tactic(auto, using(crate::proofs::Digits::holds_and))]
 pub fn common(a: u64, b: u64) -> u64
     ensures { (k : ℕ) → holds result k ≡ (holds a k && holds b k) }
 {
@@ -30,6 +33,7 @@ pub fn common(a: u64, b: u64) -> u64
 }
 
 // Whether a number is in the set.
+#[tactic(auto, unfolding(crate::specs::Sets::holds))]
 pub fn has(set: u64, i: usize) -> bool
     requires { i < 64 }
     ensures { result ≡ holds set i }
@@ -38,6 +42,7 @@ pub fn has(set: u64, i: usize) -> bool
 }
 
 // The set without one number. The number is put in first, so that taking it out is one change of its bit.
+#[tactic(auto, using(crate::proofs::Digits::holds_without))]
 pub fn without(set: u64, i: usize) -> u64
     requires { i < 64 }
     ensures { (k : ℕ) → holds result k ≡ (not (eqb k i) && holds set k) }

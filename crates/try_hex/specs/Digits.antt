@@ -1,28 +1,29 @@
 -- Hexadecimal digits, `0` to `9` and `a` to `f`, and the bytes that pairs of them say.
 -- Main definitions: `digit_of`, `byte_of`, `first_of`, `bytes_of`, `BytesRead`. Assume nothing.
-use Rattle.std.specs.Prelude.{cond, List, [], ◌∷◌, ℕ, ◌+◌, ◌*◌, ◌-◌, leb, ltb, length, take}
+use Rattle.std.specs.Prelude.{List, [], ◌∷◌, ℕ, ◌+◌, ◌*◌, ◌-◌, ◌&&◌, nat_le, if◌then◌else◌, length, take, Option, Some, None, option_and_then, option_map}
 use Rattle.list_text.specs.Wrote.{Wrote}
-use Rattle.try_hex.specs.declared.Said.{Said}
-use Rattle.try_hex.specs.declared.Said.TheVariants.{Value, Other}
 
--- the value of a digit, and 16 of any other byte
-unfoldable pub digit_of : (b : ℕ) → ℕ
-digit_of b = cond (ltb b 48) 16 (cond (ltb b 58) (b - 48) (cond (ltb b 97) 16 (cond (ltb b 103) (b - 87) 16)))
+-- the value of a digit
+abbrev pub digit_of : (b : ℕ) → Option ℕ
+digit_of b =
+    if nat_le 48 b && nat_le b 57 then Some (b - 48)
+    else if nat_le 97 b && nat_le b 102 then Some (b - 87)
+    else None
 
 -- the byte that two digits say
-unfoldable pub byte_of : (high low : ℕ) → Said
-byte_of high low = cond (leb 16 (digit_of high)) Other (cond (leb 16 (digit_of low)) Other (Value (16 * digit_of high + digit_of low)))
+unfoldable pub byte_of : (high low : ℕ) → Option ℕ
+byte_of high low = option_and_then (λ sixteens. option_map (λ ones. 16 * sixteens + ones) (digit_of low)) (digit_of high)
 
 -- what a text says first
-unfoldable pub first_of : (text : List ℕ) → Said
-first_of [] = Other
-first_of (high ∷ []) = Other
+unfoldable pub first_of : (text : List ℕ) → Option ℕ
+first_of [] = None
+first_of (high ∷ []) = None
 first_of (high ∷ low ∷ rest) = byte_of high low
 
 -- what is said first, and the bytes that follow it
-unfoldable pub followed_by : List ℕ → Said → List ℕ
-followed_by rest (Value b) = b ∷ rest
-followed_by rest Other = []
+unfoldable pub followed_by : List ℕ → Option ℕ → List ℕ
+followed_by rest (Some b) = b ∷ rest
+followed_by rest None = []
 
 -- the bytes that a text says, up to the first two places that are no digits
 unfoldable pub bytes_of : (text : List ℕ) → List ℕ

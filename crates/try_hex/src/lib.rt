@@ -1,92 +1,63 @@
 // Lines of hexadecimal digits: the bytes that a line says, and where it ends.
 #![tactic(auto)]
 
-ghost use Rattle.std.specs.Prelude.{◌≡◌, drop};
+ghost use Rattle.std.specs.Prelude.{◌≡◌, ◌≤◌, drop, length};
 ghost use Rattle.try_hex.specs.Digits.{digit_of, byte_of, first_of, BytesRead};
 ghost use Rattle.try_hex.specs.Lines.{LineEnds};
 
-const NEWLINE: u8 = 10;
+const NEWLINE: u8 = b'\n';
 
-// What digits say: a number, or nothing.
-#[derive(Drop)]
-enum Said {
-    Value(u8),
-    Other,
-}
-
-// The value of a digit, or 16 for any other byte.
-fn digit(b: u8) -> u8
+// The value of a digit.
+fn digit(b: u8) -> Option<u8>
     ensures { result ≡ digit_of b }
 {
-    if b < 48 {
-        return 16;
+    match b {
+        b'0'..=b'9' => Some(b - b'0'),
+        b'a'..=b'f' => Some(b - b'a' + 10),
+        _ => None,
     }
-    if b < 58 {
-        return b - 48;
-    }
-    if b < 97 {
-        return 16;
-    }
-    if b < 103 {
-        return b - 87;
-    }
-    16
 }
 
-fn pair(high: u8, low: u8) -> Said
+// The byte that two digits say.
+#[tactic(auto, unfolding(crate::specs::Digits::byte_of))]
+fn pair(high: u8, low: u8) -> Option<u8>
     ensures { result ≡ byte_of high low }
 {
-    let sixteens = digit(high);
-    let ones = digit(low);
-    if 16 <= sixteens {
-        return Said::Other;
-    }
-    if 16 <= ones {
-        return Said::Other;
-    }
-    Said::Value(16 * sixteens + ones)
+    Some(16 * digit(high)? + digit(low)?)
 }
 
 // What the two bytes at a place say. The place may be beyond the end.
-fn byte(text: &[u8], at: usize) -> Said
+#[tactic(auto, using(crate::proofs::Saying::first_at, crate::proofs::Saying::first_beyond))]
+fn byte(text: &[u8], at: usize) -> Option<u8>
     ensures { result ≡ first_of (drop at text.now) }
 {
-    if text.len() < 2 {
-        return Said::Other;
-    }
-    if text.len() - 2 < at {
-        return Said::Other;
-    }
-    pair(text[at], text[at + 1])
+    pair(*text.get(at)?, *text.get(at + 1)?)
 }
 
 // Reads the bytes that a text says from its start, as far as there is room: how many they are.
+#[tactic(auto, using(crate::proofs::Saying::reads_full))]
 pub fn read(text: &[u8], bytes: &mut [u8]) -> usize
-    ensures { BytesRead text.now bytes.old bytes.new result }
+    ensures bytes { BytesRead text.now bytes.old bytes.new result }
+    ensures within { result ≤ length bytes.new }
 {
-    let mut k: usize = 0;
-    let mut at: usize = 0;
-    while k < bytes.len() {
-        let Said::Value(b) = byte(text, at) else {
+    for k in 0..bytes.len() {
+        let Some(b) = byte(text, 2 * k) else {
             return k;
         };
         bytes[k] = b;
-        k += 1;
-        at += 2;
     }
-    k
+    bytes.len()
 }
 
 // How many bytes the first line of a text has, with the newline that ends it.
+#[tactic(auto, using(crate::proofs::Saying::line_ends, crate::proofs::Saying::line_goes_on, crate::proofs::Saying::line_is_all))]
 pub fn line_length(text: &[u8]) -> usize
     ensures { LineEnds text.now result }
 {
-    let mut i: usize = 0;
-    while i < text.len() {
-        if text[i] == NEWLINE {
+    for (i, b) in text.iter().enumerate() {
+        if *b == NEWLINE {
             return i + 1;
         }
-        i += 1;
     }
-    i
+    text.len()
 }

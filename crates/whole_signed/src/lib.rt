@@ -8,7 +8,7 @@ ghost use Rattle.whole_signed.specs.Contract.{Summands, Product};
 pub fn wide(a: i32) -> i64
     ensures { result ≡ a }
 {
-    a as i64
+    i64::from(a)
 }
 
 // Two factors of 32 bits always fit: 2^31 times 2^31 is 2^62.

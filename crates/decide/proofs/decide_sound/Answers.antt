@@ -19,13 +19,13 @@ run_all-requires c = let facts = read_facts c.requires.sound in
     }
 
 pub with_rows-requires : goal.with_rows-requires
-with_rows-requires c = then_finishable c.requires c.run_all.ensures c.in-Going.is
+with_rows-requires c = then_finishable c.requires c.run_all.ensures c.in-Ok.is
 
 pub cleared-requires : goal.cleared-requires
 cleared-requires c = record { numerators = search rules; denominators = search rules }
 
-pub returns-in-Going : goal.returns-in-Going
-returns-in-Going c = decides_rows c.requires c.run_all.ensures c.in-Going.is c.with_rows.ensures
+pub returns-in-Ok : goal.returns-in-Ok
+returns-in-Ok c = decides_rows c.requires c.run_all.ensures c.in-Ok.is c.with_rows.ensures
 
-pub returns-in-Ended : goal.returns-in-Ended
-returns-in-Ended c = decides_cleared c.requires c.run_all.ensures c.in-Ended.is c.cleared.ensures
+pub returns-in-Err : goal.returns-in-Err
+returns-in-Err c = decides_cleared c.requires c.run_all.ensures c.in-Err.is c.cleared.ensures

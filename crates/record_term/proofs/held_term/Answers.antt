@@ -1,13 +1,10 @@
 -- `record_term::held_term` meets its contract: the fields that are read are those of the record.
 -- Assumes nothing.
-use mathlib.Core.Path.{◌≡◌}
-use Prim.Native.Nat.{◌+◌, ◌*◌}
-use Rattle.std.proofs.Common.{arith}
-use Rattle.record_term.specs.Terms.{term_read, HoldsTerm}
+use Rattle.record_term.proofs.Judging.{held_some, held_is}
 use Rattle.record_term.proofs.held_term.Goals as goal
 
 pub returns : goal.returns
-unfolding term_read HoldsTerm
-returns c = let own = c.args.own in
-    let bits : 8 * (4 + 8 * own) ≡ 32 + 64 * own = omega arith in
-    (rw (c.read_fields-held.ensures.same, bits) at (c.kind_of.ensures own)) c.requires.faultless
+returns c = held_is c.args.own c.read_fields-held.ensures _ (λ n. rw c.unwrap.ensures at (c.kind_of.ensures n)) c.requires.faultless
+
+pub unwrap-requires : goal.unwrap-requires
+unwrap-requires c = held_some c.args.own c.read_fields-held.ensures _ c.kind_of.ensures c.requires.faultless

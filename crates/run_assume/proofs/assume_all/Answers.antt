@@ -1,7 +1,6 @@
 -- `run_assume::assume_all` meets its contract. Assumes nothing.
-use Rattle.std.proofs.Common.{rules}
-use Rattle.std.proofs.Common.{arith}
-use Prim.Native.Nat.{◌≤◌}
+use Rattle.std.proofs.Common.{rules, arith}
+use Rattle.std.proofs.lemmas.Result.{err_from_is_err_and}
 use Rattle.rules_problem.proofs.Holding.{holding}
 use Rattle.run_assume.proofs.All.{assuming_starts, sides_below_lem, assuming_ends, assuming_turned}
 use Rattle.run_assume.proofs.assume_all.Goals as goal
@@ -19,22 +18,18 @@ assume_one-requires c = let held = c.requires.prepared.held in
     let below = sides_below_lem _ _ _ _ c.pair_at-pair.ensures in
     record { resting = c.loop-k.invariant.resting; left_below = below.0; right_below = below.1; few_solved = omega (arith, c.loop-k.invariant, c.requires.pairs, parts.few_pairs) }
 
-pub overflow_add-k : goal.overflow_add-k
-overflow_add-k c = let held = c.requires.prepared.held in
-    let few : c.args.m ≤ 64 = omega (arith, c.requires.pairs, (holding _ held.problem held.same).few_pairs) in
-    record { fits = omega (arith, c.loop-k-test.true) }
-
 pub loop-k-preserved : goal.loop-k-preserved
-loop-k-preserved c = (assuming_turned c.requires c.loop-k.invariant c.loop-k-test.true c.pair_at-pair.result c.pair_at-pair.ensures c.assume_one.ensures).on _ c.in-Going.is
+loop-k-preserved c = (assuming_turned c.requires c.loop-k.invariant (omega arith) c.pair_at-pair.result c.pair_at-pair.ensures c.assume_one.ensures).on _ c.in_ok-count.was
 
-pub returns-in-Ended : goal.returns-in-Ended
-returns-in-Ended c = (assuming_turned c.requires c.loop-k.invariant c.loop-k-test.true c.pair_at-pair.result c.pair_at-pair.ensures c.assume_one.ensures).stops _ c.in-Ended.is
+pub returns-in_err-count : goal.returns-in_err-count
+returns-in_err-count c =
+    let p = err_from_is_err_and c.from_residual.result c.from_residual.ensures.1 in
+    rw (p.1, p.2) ((assuming_turned c.requires c.loop-k.invariant (omega arith) c.pair_at-pair.result c.pair_at-pair.ensures c.assume_one.ensures).stops _ c.in_err-count.was)
 
-pub shape_of-sets-in-Ended : goal.shape_of-sets-in-Ended
-shape_of-sets-in-Ended c = (returns-in-Ended c).stays.size
+pub returns-in_ok-count : goal.returns-in_ok-count
+returns-in_ok-count c =
+    let turned = assuming_turned c.requires c.loop-k.invariant (omega arith) c.pair_at-pair.result c.pair_at-pair.ensures c.assume_one.ensures in
+    assuming_ends c.requires (turned.on _ c.in_ok-count.was) (omega arith)
 
 pub returns : goal.returns
 returns c = assuming_ends c.requires c.loop-k.invariant (search rules)
-
-pub shape_of-sets : goal.shape_of-sets
-shape_of-sets c = (returns c).stays.size

@@ -1,9 +1,6 @@
 -- `run_build_row::build_term` meets its contract. Assumes nothing.
-use Rattle.run_build_row.proofs.Term.{term_coverable, term_makeable, term_built}
+use Rattle.run_build_row.proofs.Term.{term_makeable, term_built}
 use Rattle.run_build_row.proofs.build_term.Goals as goal
-
-pub columns_of-columns-requires : goal.columns_of-columns-requires
-columns_of-columns-requires c = search term_coverable
 
 pub term_row-step-requires : goal.term_row-step-requires
 term_row-step-requires c = search term_makeable

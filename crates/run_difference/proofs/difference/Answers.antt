@@ -16,10 +16,10 @@ pub loop-c-smaller : goal.loop-c-smaller
 loop-c-smaller c = search taking_less
 
 pub loop-c-preserved : goal.loop-c-preserved
-loop-c-preserved c = search difference_stores
+loop-c-preserved c = search (difference_stores, c.in_ok-f.ensures)
 
-pub returns-in-Refused : goal.returns-in-Refused
-returns-in-Refused c = search difference_stops
+pub returns-in_err-f : goal.returns-in_err-f
+returns-in_err-f c = search (difference_stops, c.in_err-f.ensures)
 
 pub returns : goal.returns
 returns c = search difference_ends

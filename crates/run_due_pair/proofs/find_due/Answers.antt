@@ -9,14 +9,14 @@ loop-j-init c = search searching_starts
 pub open_waiting-lefts-requires : goal.open_waiting-lefts-requires
 open_waiting-lefts-requires c = search rules
 
-pub returns-in-Pair : goal.returns-in-Pair
-returns-in-Pair c = search searching_found
+pub returns-in-Some : goal.returns-in-Some
+returns-in-Some c = search searching_found
 
 pub pass-requires : goal.pass-requires
 pass-requires c = search rules
 
 pub loop-j-smaller : goal.loop-j-smaller
-loop-j-smaller c = let forward = c.next-j-in-NoneDue.ensures.forward in search rules
+loop-j-smaller c = let forward = c.next-j-in-loop-j.ensures.forward in search rules
 
 pub loop-j-preserved : goal.loop-j-preserved
 loop-j-preserved c = search searching_on

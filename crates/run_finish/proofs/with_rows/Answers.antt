@@ -5,5 +5,5 @@ use Rattle.run_finish.proofs.with_rows.Goals as goal
 pub returns-then-same : goal.returns-then-same
 returns-then-same c = search finishes_entailed
 
-pub returns : goal.returns
-returns c = search finishes_not_entailed
+pub returns-else-same : goal.returns-else-same
+returns-else-same c = search finishes_not_entailed

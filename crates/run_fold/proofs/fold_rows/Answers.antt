@@ -13,10 +13,10 @@ pub next_row-t-requires : goal.next_row-t-requires
 next_row-t-requires c = folding_seeks c.requires c.loop-t.invariant c.loop-t-test.true c.fold_row.ensures
 
 pub loop-t-preserved : goal.loop-t-preserved
-loop-t-preserved c = search folding_goes_on
+loop-t-preserved c = search (folding_goes_on, c.in_ok-fold_row.ensures)
 
-pub returns-in-Refused : goal.returns-in-Refused
-returns-in-Refused c = search folding_stops
+pub returns-in_err-fold_row : goal.returns-in_err-fold_row
+returns-in_err-fold_row c = search (folding_stops, c.in_err-fold_row.ensures)
 
 pub returns : goal.returns
 returns c = search folding_ends

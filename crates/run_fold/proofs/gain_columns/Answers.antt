@@ -13,20 +13,20 @@ gained-requires c = search gaining_asks
 pub put-requires : goal.put-requires
 put-requires c = search (taking_in_nums, taking_in_dens)
 
-pub loop-c-smaller-in-Fits : goal.loop-c-smaller-in-Fits
-loop-c-smaller-in-Fits c = search taking_less
+pub loop-c-preserved-then-form-ne0 : goal.loop-c-preserved-then-form-ne0
+loop-c-preserved-then-form-ne0 c = search (gaining_stores, c.in_ok-f.ensures)
 
-pub loop-c-preserved-in-Fits : goal.loop-c-preserved-in-Fits
-loop-c-preserved-in-Fits c = search gaining_stores
+pub returns-in_err-f : goal.returns-in_err-f
+returns-in_err-f c = search (gaining_stops, c.in_err-f.ensures)
 
-pub returns-in-Refused : goal.returns-in-Refused
-returns-in-Refused c = search gaining_stops
+pub shape_of-nums-in_err-f : goal.shape_of-nums-in_err-f
+shape_of-nums-in_err-f c = (returns-in_err-f c).row_made.kept.nums_length
 
-pub shape_of-nums-in-Refused : goal.shape_of-nums-in-Refused
-shape_of-nums-in-Refused c = (returns-in-Refused c).row_made.kept.nums_length
+pub shape_of-dens-in_err-f : goal.shape_of-dens-in_err-f
+shape_of-dens-in_err-f c = (returns-in_err-f c).row_made.kept.dens_length
 
-pub shape_of-dens-in-Refused : goal.shape_of-dens-in-Refused
-shape_of-dens-in-Refused c = (returns-in-Refused c).row_made.kept.dens_length
+pub loop-c-smaller-then-form-ne0 : goal.loop-c-smaller-then-form-ne0
+loop-c-smaller-then-form-ne0 c = search taking_less
 
 pub loop-c-smaller : goal.loop-c-smaller
 loop-c-smaller c = search taking_less

@@ -3,11 +3,11 @@ use Rattle.run_table.specs.Sets.{columns_of}
 use Rattle.run_merge.proofs.Steps.{zeros_within, merge_subtracts, merge_settles, difference_made, difference_refused}
 use Rattle.run_merge.proofs.merge.Goals as goal
 
-pub returns-in-Done : goal.returns-in-Done
-returns-in-Done c = search difference_made
+pub returns-in_err-difference : goal.returns-in_err-difference
+returns-in_err-difference c = search (difference_refused, c.in_err-difference.ensures)
 
-pub returns-in-Refused : goal.returns-in-Refused
-returns-in-Refused c = search difference_refused
+pub returns : goal.returns
+returns c = search (difference_made, c.in_ok-difference.ensures)
 
 pub difference-requires : goal.difference-requires
 unfolding columns_of

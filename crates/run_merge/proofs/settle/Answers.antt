@@ -5,11 +5,11 @@ use Rattle.run_merge.proofs.settle.Goals as goal
 pub solve-requires : goal.solve-requires
 solve-requires c = search settle_solves
 
-pub returns-then-constant-eq0 : goal.returns-then-constant-eq0
-returns-then-constant-eq0 c = search settles_nothing
+pub returns-in-Some : goal.returns-in-Some
+returns-in-Some c = search settles_solved
 
-pub returns-in-At : goal.returns-in-At
-returns-in-At c = search settles_solved
+pub returns-in-None : goal.returns-in-None
+returns-in-None c = search settles_nothing
 
-pub returns-else-constant-eq0 : goal.returns-else-constant-eq0
-returns-else-constant-eq0 c = search settles_contradiction
+pub returns-in-None-2 : goal.returns-in-None-2
+returns-in-None-2 c = search settles_contradiction

@@ -2,8 +2,8 @@
 use Rattle.run_pivot.proofs.Chosen.{chooses_preferred, chooses_other}
 use Rattle.run_pivot.proofs.pivot.Goals as goal
 
-pub returns-in-At : goal.returns-in-At
-returns-in-At c = search chooses_preferred
+pub returns-in-Some : goal.returns-in-Some
+returns-in-Some c = search chooses_preferred
 
-pub returns-in-Nothing : goal.returns-in-Nothing
-returns-in-Nothing c = search chooses_other
+pub returns-in-None : goal.returns-in-None
+returns-in-None c = search chooses_other

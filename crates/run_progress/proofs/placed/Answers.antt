@@ -1,20 +1,8 @@
 -- `run_progress::placed` meets its contract. Assumes nothing.
-use mathlib.Core.Path.{ap, subst}
-use Rattle.fraction.specs.Made.{because}
-use Rattle.rules_run.specs.Run.{ends}
-use Rattle.run_close.specs.Outcome.{closed, Counted}
-use Rattle.run_progress.specs.Ran.{ran, AtMost}
+use Rattle.std.proofs.Common.{rules}
+use Rattle.std.proofs.lemmas.Result.{MatchResult-weaker}
+use Rattle.run_progress.proofs.Going.{placed_ends}
 use Rattle.run_progress.proofs.placed.Goals as goal
 
-pub returns-in-Going : goal.returns-in-Going
-unfolding because ends closed ran AtMost Counted
-returns-in-Going c = let same = c.in-Going.is in
-    record { answers = λ table. ap (λ x. because (ends c.args.place) (closed x table)) same; counted = subst (Counted c.args.most) same c.requires }
-
-pub returns-in-Contradiction : goal.returns-in-Contradiction
-unfolding because ends closed ran AtMost Counted
-returns-in-Contradiction c = record { answers = λ table. ap (λ x. because (ends c.args.place) (closed x table)) c.in-Contradiction.is; counted = tt }
-
-pub returns-in-Refused : goal.returns-in-Refused
-unfolding because ends closed ran AtMost Counted
-returns-in-Refused c = record { answers = λ table. ap (λ x. because (ends c.args.place) (closed x table)) c.in-Refused.is; counted = tt }
+pub returns : goal.returns
+returns c = placed_ends c.args.closing c.requires (MatchResult-weaker c.args.closing c.map_err.ensures.cases (λ count is. is) (λ halt told. search rules))

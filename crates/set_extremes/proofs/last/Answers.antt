@@ -3,19 +3,10 @@ use mathlib.Core.Path.{subst}
 use Prim.Native.Nat.{◌-◌, ◌^◌, ◌<◌}
 use Rattle.std.proofs.Common.{arith}
 use lib.Bits.{bit_and}
-use lib.Pow.{pow_pos}
 use Rattle.set_members.proofs.Digits.{one_shifted}
 use Rattle.set_extremes.specs.Extremes.{Last}
-use Rattle.set_extremes.proofs.Downward.{last_all, last_below}
+use Rattle.set_extremes.proofs.Downward.{last_below}
 use Rattle.set_extremes.proofs.last.Goals as goal
-
-pub returns-then-end-eq64 : goal.returns-then-end-eq64
-returns-then-end-eq64 c = search last_all
-
-pub overflow_sub-end : goal.overflow_sub-end
-overflow_sub-end c = let some : 0 < 2 ^ c.args.end = pow_pos c.args.end in
-    let small : c.args.end < 64 = omega arith in
-    omega (arith, one_shifted c.args.end small)
 
 pub returns : goal.returns
 returns c = let small : c.args.end < 64 = omega arith in

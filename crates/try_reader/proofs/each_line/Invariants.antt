@@ -1,10 +1,9 @@
 -- `try_reader::each_line` ends: the text left falls at each line. Assumes nothing.
-use Prim.Native.Nat.{◌≤◌, ◌-◌}
-use lib.ListN.{length}
+use Rattle.std.specs.Prelude.{length, ⊤}
 use Rattle.try_reader.proofs.each_line.Given as goal
 
-abbrev pub invariant-loop-at : goal.invariant-loop-at
-invariant-loop-at g l = l.at ≤ length l.text
+abbrev pub invariant-loop-rest : goal.invariant-loop-rest
+invariant-loop-rest g l = ⊤
 
-abbrev pub decreases-loop-at : goal.decreases-loop-at
-decreases-loop-at g l = length l.text - l.at
+abbrev pub decreases-loop-rest : goal.decreases-loop-rest
+decreases-loop-rest g l = length l.rest

@@ -1,25 +1,14 @@
 -- `record_cursor::Cursor::take` meets its contract: a field lies in three bytes, and is what a shift and a remainder leave of their number.
 -- Assumes nothing.
-use Rattle.std.proofs.Common.{rules}
-use borrow.Author.Tests.{lt-leb, le-leb}
-use mathlib.Core.Path.{◌≡◌}
-use Prim.Native.Nat.{◌+◌, ◌-◌, ◌*◌, ◌/◌, ◌%◌, ◌^◌, ◌<◌, ◌≤◌}
 use Rattle.std.proofs.Common.{arith}
+use borrow.Author.Tests.{le-leb}
+use mathlib.Core.Path.{◌≡◌}
+use Prim.Native.Nat.{◌+◌, ◌-◌, ◌*◌, ◌/◌, ◌%◌, ◌^◌, ◌≤◌}
 use lib.ListN.{length}
-use lib.Pow.{pow_pos}
 use Rattle.rules_problem.specs.Bits.{field}
 use Rattle.record_cursor.proofs.Bits.{field_window, power_made}
 use Rattle.record_cursor.specs.Taken.{number_at, taken_at}
 use Rattle.record_cursor.proofs.Cursor.take.Goals as goal
-
-pub returns-then-bytes-end : goal.returns-then-bytes-end
-unfolding taken_at
-returns-then-bytes-end c = let a = c.args in
-    let short : 8 * length a.bytes.now < a.self.at + a.width = omega arith in
-    rw (lt-leb _ _ short)
-
-pub nonzero_rem-value : goal.nonzero_rem-value
-nonzero_rem-value c = rw (power_made 32 c.args.width (search rules)) (pow_pos c.args.width)
 
 pub returns : goal.returns
 unfolding taken_at

@@ -11,7 +11,7 @@ unfolding earlier_of pending_of open_of
 returns-then-has c i = let pending = sym c.has.ensures ∙ c.if-has.true in
     rw (pending, or-true, and-true) (c.common-earlier.ensures i)
 
-pub returns : goal.returns
+pub returns-else-has : goal.returns-else-has
 unfolding earlier_of pending_of open_of
-returns c i = let asleep = sym c.has.ensures ∙ c.if-has.false in
+returns-else-has c i = let asleep = sym c.has.ensures ∙ c.if-has.false in
     rw (asleep, or-false) (c.common.ensures i ∙ ap (λ b. b && holds (get_or c.args.sets.now 192 0) i) (c.common-earlier.ensures i))

@@ -1,9 +1,0 @@
--- `try_operations::main` ends: the fractions left fall by one at each turn. Assumes nothing.
-use Prim.Native.Nat.{◌≤◌, ◌-◌}
-use Rattle.try_operations.proofs.main.Given as goal
-
-abbrev pub invariant-loop-i : goal.invariant-loop-i
-invariant-loop-i l = l.i ≤ 24
-
-abbrev pub decreases-loop-i : goal.decreases-loop-i
-decreases-loop-i l = 24 - l.i

@@ -10,6 +10,7 @@ use lib.ListN.{length, take, drop}
 use lib.Seq.{take_at}
 use Rattle.answer.specs.declared.Answer.{Answer}
 use Rattle.answer.specs.declared.Answer.TheVariants.{Entailed, NotEntailed, Contradictory, Refused}
+use Rattle.answer.specs.Refusals.{number_of}
 use Rattle.answer.specs.declared.Refusal.{Refusal}
 use Rattle.answer.specs.declared.Reason.TheVariants as reason
 use Rattle.fraction.specs.Made.{Made, made, stopped}
@@ -43,7 +44,7 @@ unfolding Ended rows_listed
 stopped_rows problem (Entailed solved) n ended = absurd ended
 stopped_rows problem (NotEntailed solved) n ended = absurd ended
 stopped_rows problem (Contradictory place) n ended = refl
-stopped_rows problem (Refused why place) n ended = refl
+stopped_rows problem (Refused number place) n ended = refl
 
 -- and that of a finished run has all.
 module _ (goal : Pair) (state : State) where
@@ -62,10 +63,10 @@ module _ (ranking : Ranking) (strict : Strict ranking) (bytes : List ℕ) (lent 
 
   unread_listed : (refusal : Refusal) → ROOM ≤ length buffer → page_for (after (unread refusal) lent) ≡ put (listed (unread refusal)) 0 buffer
   unfolding list_page listed after answered rows_listed
-  unread_listed refusal room = first_alone _ _ (Refused refusal.reason refusal.place) (field bytes 0 8) buffer refl room
+  unread_listed refusal room = first_alone _ _ (Refused (number_of refusal.reason) refusal.place) (field bytes 0 8) buffer refl room
 
   -- Lists that are too short: the first line of refusal 1.
-  pub short_listed : is_long lent ≡ false → ROOM ≤ length buffer → page_for (outcome ranking bytes lent) ≡ put (first_line (Refused reason.Space 0)) 0 buffer
+  pub short_listed : is_long lent ≡ false → ROOM ≤ length buffer → page_for (outcome ranking bytes lent) ≡ put (first_line (Refused (number_of reason.Space) 0)) 0 buffer
   unfolding listed answered
   short_listed short room = ap page_for (outcome_short ranking bytes lent short) ∙ unread_listed (record { reason = reason.Space; place = 0 }) room
 

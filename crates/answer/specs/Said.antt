@@ -1,7 +1,6 @@
 -- What each case of the answer says in the words and numbers of document 01.
 -- Main definitions: `Word`, `Said`, `said`. Assumes nothing.
 use Rattle.std.specs.Prelude.{ℕ}
-use Rattle.answer.specs.Refusals.{number_of}
 use Rattle.answer.specs.declared.Answer.{Answer}
 use Rattle.answer.specs.declared.Answer.TheVariants.{Entailed, NotEntailed, Contradictory, Refused}
 
@@ -21,4 +20,4 @@ unfoldable pub said : Answer → Said
 said (Entailed solved) = record { word = entailed; place = 0; count = solved }
 said (NotEntailed solved) = record { word = not_entailed; place = 0; count = solved }
 said (Contradictory place) = record { word = contradictory; place = place; count = 0 }
-said (Refused why place) = record { word = refused (number_of why); place = place; count = 0 }
+said (Refused number place) = record { word = refused number; place = place; count = 0 }

@@ -44,21 +44,21 @@ pub struct Refusal {
     pub place: usize,
 }
 
-// Entailed and NotEntailed carry the count of solved unknowns, Contradictory its place, Refused its reason, which has a number, and place.
+// Entailed and NotEntailed carry the count of solved unknowns, Contradictory its place, Refused its number and place.
 #[derive(Clone, Copy, Debug, PartialEq, Eq)]
 pub enum Answer {
     Entailed { solved: usize },
     NotEntailed { solved: usize },
     Contradictory { place: usize },
-    Refused { reason: Reason, place: usize },
+    Refused { number: u8, place: usize },
 }
 
 impl From<Refusal> for Answer {
-    ghost from_gives = { λ refusal answer. answer ≡ Refused refusal.reason refusal.place };
+    ghost from_gives = { λ refusal answer. answer ≡ Refused (number_of refusal.reason) refusal.place };
 
     fn from(refusal: Refusal) -> Answer {
         Answer::Refused {
-            reason: refusal.reason,
+            number: refusal.reason.number(),
             place: refusal.place,
         }
     }

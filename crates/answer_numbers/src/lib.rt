@@ -35,9 +35,9 @@ pub fn in_numbers(answer: Answer) -> Numbers
             number: 0,
             figure: place,
         },
-        Answer::Refused { reason, place } => Numbers {
+        Answer::Refused { number, place } => Numbers {
             word: 3,
-            number: reason.number(),
+            number,
             figure: place,
         },
     }

@@ -8,7 +8,6 @@ use Prim.Native.Nat.{ℕ, ◌+◌, ◌*◌, ◌<◌}
 use native.Mathlib.Omega.{arith}
 use lib.ListN.{length, get_or, get_or-replicate}
 use lib.IntN.{ℤ, pos}
-use Rattle.answer.specs.declared.Reason.{Reason}
 use Rattle.answer.specs.declared.Answer.{Answer}
 use Rattle.answer.specs.declared.Answer.TheVariants.{Entailed, Refused}
 use Rattle.answer.specs.Said.{Word, entailed, not_entailed, contradictory, said}
@@ -48,12 +47,12 @@ at : (program : Program) → EqualIsTrue highest_number program → {case : Case
 unfolding EqualIsTrue
 at _ meets {case} {problem} stated = meets case.problem zero_lists problem zero_lists_long stated.holds
 
--- Case J's second goal is in range, so demand 2 asks for no refusal, whatever its reason and place.
-pub refuses_all_fails : (why : Reason) (place : ℕ) → Fails (refuses_all why place)
+-- Case J's second goal is in range, so demand 2 asks for no refusal, whatever its number and place.
+pub refuses_all_fails : (number place : ℕ) → Fails (refuses_all number place)
 unfolding refuses_all InRange
-refuses_all_fails why place = fails (λ meets.
+refuses_all_fails number place = fails (λ meets.
     let (within, apart) = if_not_entailed case_j2_not_entailed refl in
-    within why place (((at (refuses_all why place) meets case_j2_not_entailed).range_exactly why place).0 refl))
+    within number place (((at (refuses_all number place) meets case_j2_not_entailed).range_exactly number place).0 refl))
 
 -- In case I every reading gives both records of f(x) one number, so demand 2 asks for entailed.
 pub says_not_entailed_fails : Fails says_not_entailed
@@ -131,7 +130,7 @@ truth_of {problem} answer same true-one = record {
   entailed_exactly = subst (λ a. InRange highest_number problem → ((said a).word ≡ entailed) ↔ IsEntailed problem) answer true-one.entailed_exactly;
   contradictory_exactly = subst (λ a. InRange highest_number problem → ((said a).word ≡ contradictory) ↔ IsContradictory problem) answer true-one.contradictory_exactly;
   not_entailed_exactly = subst (λ a. InRange highest_number problem → ((said a).word ≡ not_entailed) ↔ IsNotEntailed problem) answer true-one.not_entailed_exactly;
-  range_exactly = subst (λ a. (why : Reason) (place : ℕ) → (a ≡ Refused why place) ↔ OutOfRange highest_number problem why place) answer true-one.range_exactly;
+  range_exactly = subst (λ a. (number place : ℕ) → (a ≡ Refused number place) ↔ OutOfRange highest_number problem number place) answer true-one.range_exactly;
   rows_exactly = λ finishes.
       subst (λ x. (t u : ℕ) → t < length problem.terms → u < length problem.terms → EqualRows x t u ↔ Forced problem (record { left = t; right = u })) (same finishes)
       (true-one.rows_exactly (subst Finished (sym (same finishes)) finishes));

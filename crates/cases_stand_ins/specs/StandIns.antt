@@ -15,9 +15,9 @@ use Rattle.rules_run.specs.Run.{highest_number}
 use Rattle.rules_outcome.specs.Outcome.{Decision, unread, cut_short, finished, after_reading, decision, answered, Lent, is_long, Outcome, after, outcome}
 use Rattle.rules_demands.specs.Demands.{Program}
 
--- 01: "one that refuses all": for any reason, at any place
-unfoldable pub refuses_all : (why : Reason) (place : ℕ) → Program
-refuses_all why place bytes lent = record { answer = Refused why place; left = lent }
+-- 01: "one that refuses all": with any number, at any place
+unfoldable pub refuses_all : (number place : ℕ) → Program
+refuses_all number place bytes lent = record { answer = Refused number place; left = lent }
 
 -- "one that says not-entailed to all"
 unfoldable pub says_not_entailed : Program
@@ -57,7 +57,7 @@ unfoldable pub one_more : Answer → Answer
 one_more (Entailed solved) = Entailed (suc solved)
 one_more (NotEntailed solved) = NotEntailed (suc solved)
 one_more (Contradictory place) = Contradictory place
-one_more (Refused why place) = Refused why place
+one_more (Refused number place) = Refused number place
 
 -- "A made-up solved count"
 unfoldable pub counts_one_more : Program

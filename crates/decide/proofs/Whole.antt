@@ -13,6 +13,7 @@ use borrow.Author.Tests.{lt-leb}
 use lib.ListN.{length, get_or}
 use lib.IntN.{ℤ, pos}
 use Rattle.answer.specs.declared.Answer.{Answer}
+use Rattle.answer.specs.Refusals.{number_of}
 use Rattle.answer.specs.declared.Answer.TheVariants.{Refused}
 use Rattle.answer.specs.declared.Refusal.{Refusal}
 use Rattle.answer.specs.declared.Reason.TheVariants as reason
@@ -169,9 +170,9 @@ decision_refused bytes why = go (decoded bytes) refl
 
 module _ {bytes : List ℕ} {nums dens : List ℤ} where
   -- A list that is too short is refused with SPACE, and both stay as they are.
-  pub decided_short : (length nums < PLACES) ⊎ (length dens < PLACES) → Decided bytes (lent_of nums dens) (comes_back (Refused reason.Space 0) (lent_of nums dens))
+  pub decided_short : (length nums < PLACES) ⊎ (length dens < PLACES) → {answer : Answer} → answer ≡ Refused (number_of reason.Space) 0 → Decided bytes (lent_of nums dens) (comes_back answer (lent_of nums dens))
   unfolding after answered is_long
-  decided_short short = decided (outcome_short highest_number bytes (lent_of nums dens) (by short))
+  decided_short short same = rw same (decided (outcome_short highest_number bytes (lent_of nums dens) (by short)))
     where
       by : (length nums < PLACES) ⊎ (length dens < PLACES) → is_long (lent_of nums dens) ≡ false
       by (inl few) = rw (lt-leb PLACES (length nums) few)
@@ -183,7 +184,7 @@ module _ {bytes : List ℕ} {nums dens : List ℤ} where
     sound_read is = record { sound = sym told ∙ is; long = record { numerators = first; denominators = second } }
 
     -- or its refusal is the answer, and the lists stay.
-    pub decided_unread : {why : Refusal} → read ≡ Err why → {answer : Answer} → answer ≡ Refused why.reason why.place → Decided bytes (lent_of nums dens) (comes_back answer (lent_of nums dens))
+    pub decided_unread : {why : Refusal} → read ≡ Err why → {answer : Answer} → answer ≡ Refused (number_of why.reason) why.place → Decided bytes (lent_of nums dens) (comes_back answer (lent_of nums dens))
     unfolding after answered
     decided_unread {why} is same =
         rw same

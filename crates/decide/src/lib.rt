@@ -7,7 +7,7 @@ ghost use Rattle.run_finish.specs.Lent.{comes_back, lent_of};
 ghost use Rattle.decide.specs.Contract.{Runnable, Runs, ReadSound, Decides};
 ghost use Rattle.decide.specs.Decided.{Decided};
 
-use answer::{Answer, Reason};
+use answer::{Answer, Reason, Refusal};
 use record_reader::Header;
 use rules_problem::{PLACES, TERMS};
 use run_table::OPEN;
@@ -69,10 +69,11 @@ pub fn decide(bytes: &[u8], nums: &mut [i32], dens: &mut [i32]) -> Answer
     ensures { Decided bytes.now (lent_of nums.old dens.old) (comes_back result (lent_of nums.new dens.new)) }
 {
     if nums.len() < PLACES || dens.len() < PLACES {
-        return Answer::Refused {
+        return Refusal {
             reason: Reason::Space,
             place: 0,
-        };
+        }
+        .into();
     }
     match record_reader::read_problem(bytes) {
         Ok(header) => decide_sound(bytes, header, nums, dens),

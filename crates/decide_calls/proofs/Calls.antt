@@ -77,7 +77,7 @@ calls_agree = record {
 -- An answer that is no refusal has no refusal's word.
 accepts_passed : (r : Answer) (left : Lent) → Accepts r → NotRefused (comes_back r left)
 unfolding Accepts NotRefused word_of said
-accepts_passed (Refused why place) left accepts other word = accepts why place refl
+accepts_passed (Refused number place) left accepts other word = accepts number place refl
 accepts_passed (Entailed solved) left accepts other word = let no_way : ◌≡◌ {A = ℕ} 0 1 = cc in omega arith
 accepts_passed (NotEntailed solved) left accepts other word = let no_way : ◌≡◌ {A = ℕ} 0 1 = cc in omega arith
 accepts_passed (Contradictory place) left accepts other word = let no_way : ◌≡◌ {A = ℕ} 0 1 = cc in omega arith
@@ -88,7 +88,7 @@ unfolding said
 contradictory_named (Contradictory place) other word = other place refl
 contradictory_named (Entailed solved) other word = let no_way : ◌≡◌ {A = ℕ} 0 1 = cc in omega arith
 contradictory_named (NotEntailed solved) other word = let no_way : ◌≡◌ {A = ℕ} 0 1 = cc in omega arith
-contradictory_named (Refused why place) other word = let no_way : ◌≡◌ {A = ℕ} 0 1 = cc in omega arith
+contradictory_named (Refused number place) other word = let no_way : ◌≡◌ {A = ℕ} 0 1 = cc in omega arith
 
 -- Lists whose first places are the same hold the same at each of them.
 taken_at : (count : ℕ) (xs ys : List ℤ) → take count xs ≡ take count ys → (p : ℕ) → p < count → get_or xs p (pos 0) ≡ get_or ys p (pos 0)

@@ -1,6 +1,5 @@
 -- Demand 3 of the entry point: what two calls of `decide` leave of one problem, whatever the order of its assumptions.
 -- Main definitions: `Deciding`, `Agreed`, `CallsAgree`, `ExitsAgree`. Assumes nothing.
-use Rattle.answer.specs.declared.Reason.{Reason}
 use Rattle.std.specs.Prelude.{◌≡◌, List, ℕ, ◌≤◌, ◌<◌, get_or, pos}
 use Rattle.answer.specs.declared.Answer.{Answer}
 use Rattle.answer.specs.declared.Answer.TheVariants.{Contradictory, Refused}
@@ -60,7 +59,7 @@ pub record SameExits (r s : Answer) (left left' : Lent) : Type 0 where
 
 -- an answer that is no refusal
 unfoldable pub Accepts : Answer → Type 0
-Accepts r = (why : Reason) (place : ℕ) → r ≡ Refused why place → ⊥
+Accepts r = (number place : ℕ) → r ≡ Refused number place → ⊥
 
 -- The same in the words of the contract: of the answers r and s and of the lists at exit, for lists of any length lent.
 unfoldable pub ExitsAgree : Type 0

@@ -3,7 +3,7 @@
 
 ghost use Rattle.export.specs.Contract.{handed, Handed, RowHanded};
 
-use answer_numbers::Numbers;
+use answer_numbers::in_numbers;
 
 // Decides one problem, as `decide::decide` does. Answers the word: 0 entailed, 1 not-entailed, 2 contradictory, 3 refused.
 #[unsafe(no_mangle)]
@@ -17,7 +17,7 @@ pub extern "C" fn hamzulaph_decide(
     ensures { Handed bytes.now nums.old dens.old nums.new dens.new (handed result number.new figure.new) }
 {
     let answer = decide::decide(bytes, nums, dens);
-    let t = Numbers::from(answer);
+    let t = in_numbers(answer);
     *number = t.number;
     *figure = t.figure;
     t.word

@@ -11,6 +11,7 @@ use borrow.Author.Tests.{leb-true, le-leb}
 use Rattle.whole.specs.Gcd.{gcd}
 use Rattle.whole.proofs.Sizes.{size_signed}
 use Rattle.fraction.specs.Exact.{ℚ, frac, ◌+ℚ◌, ◌-ℚ◌, ◌*ℚ◌, ◌÷ℚ◌}
+use Rattle.answer.specs.Refusals.{number_of}
 use Rattle.answer.specs.declared.Reason.{Reason}
 use Rattle.answer.specs.declared.Reason.TheVariants as reason
 use Rattle.fraction.specs.Limits.{limit, within, tested, Outside, plus, minus, times, over}
@@ -35,11 +36,11 @@ tested_made q c h = by (within q) refl
     by false outside = let refusal = tested_outside q outside in (cc, cc)
 
 -- What is refused lies outside the limits, and its refusal says so.
-pub tested_stopped : (q : ℚ) (why : Reason) → tested q ≡ stopped why → (within q ≡ false) × Outside why
+pub tested_stopped : (q : ℚ) (why : Reason) → tested q ≡ stopped why → (within q ≡ false) × Outside (number_of why)
 unfolding Outside
 tested_stopped q why h = by (within q) refl
   where
-    by : (b : Bool) → within q ≡ b → (within q ≡ false) × (why ≡ reason.Range)
+    by : (b : Bool) → within q ≡ b → (within q ≡ false) × (number_of why ≡ number_of reason.Range)
     by true inside = let passed = tested_within q inside in (cc, cc)
     by false outside = (outside, cc (tested_outside q outside))
 

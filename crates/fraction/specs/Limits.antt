@@ -1,6 +1,7 @@
 -- The operations of the run: made exactly, in lowest terms, and tested against the limits.
 -- Main definitions: `within`, `tested`, `Outside`, `plus`, `minus`, `times`, `over`. Assumes nothing.
 use Rattle.std.specs.Prelude.{◌≡◌, Bool, ◌&&◌, cond, ℕ, nat_abs, leb}
+use Rattle.answer.specs.Refusals.{number_of}
 use Rattle.answer.specs.declared.Reason.TheVariants as reason
 use Rattle.fraction.specs.Exact.{ℚ, ◌+ℚ◌, ◌-ℚ◌, ◌*ℚ◌, ◌÷ℚ◌}
 use Rattle.answer.specs.declared.Reason.{Reason}
@@ -17,9 +18,9 @@ within q = leb (nat_abs q.num) limit && leb q.den limit
 unfoldable pub tested : ℚ → Made Reason ℚ
 tested q = cond (within q) (made q) (stopped reason.Range)
 
--- "The first step with a number outside the limits ends the run with refusal 7": the reasons that say so
-unfoldable pub Outside : (why : Reason) → Type 0
-Outside why = why ≡ reason.Range
+-- "The first step with a number outside the limits ends the run with refusal 7": the numbers of refusal that say so
+unfoldable pub Outside : (number : ℕ) → Type 0
+Outside number = number ≡ number_of reason.Range
 
 unfoldable pub plus : ℚ → ℚ → Made Reason ℚ
 plus a b = tested (a +ℚ b)

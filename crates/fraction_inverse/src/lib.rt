@@ -6,7 +6,7 @@ ghost use Rattle.fraction_reduce.specs.Values.{value, Good, Stands};
 
 use fraction::Fraction;
 use fraction_reduce::reduce::made;
-use whole_signed::opposite;
+use whole_signed::{opposite, wide};
 use whole_size::size;
 
 // The limits are the same on both sides of zero, so the opposite is within them too.
@@ -29,5 +29,5 @@ pub fn inverted(a: Fraction) -> Fraction
     if bottom == 0 {
         return a;
     }
-    made(i64::from(a.num), size(a.den), bottom)
+    made(wide(a.num), size(a.den), bottom)
 }

@@ -8,6 +8,7 @@ use lib.ListN.{length}
 use lib.Dec.{eqb}
 use Rattle.fraction.specs.Exact.{ℚ}
 use Rattle.fraction.specs.Limits.{tested, Outside, plus, minus, times, over}
+use Rattle.answer.specs.Refusals.{number_of}
 use Rattle.answer.specs.declared.Reason.{Reason}
 use Rattle.fraction.specs.Made.{Made, made, stopped}
 use Rattle.fraction.proofs.Answers.{Answers, if_made, if_stopped, answers_bind, answers_tab}
@@ -21,7 +22,7 @@ use Rattle.rules_run.specs.Merge.{State, difference, solved_column, folded_colum
 
 -- A step that stops only with a number outside the limits.
 abbrev pub Ranged {ℓ} : {A : Type ℓ} → Made Reason A → Type ℓ
-Ranged step = Answers (λ a. Unit) Outside step
+Ranged step = Answers (λ a. Unit) (λ why. Outside (number_of why)) step
 
 tested_ranged : (q : ℚ) → Ranged (tested q)
 tested_ranged q = by (tested q) refl

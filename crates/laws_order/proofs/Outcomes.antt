@@ -10,7 +10,6 @@ use lib.IntN.{pos}
 use Rattle.answer.specs.declared.Answer.{Answer}
 use Rattle.answer.specs.declared.Answer.TheVariants.{Contradictory}
 use Rattle.answer.specs.declared.Reason.TheVariants as reason
-use Rattle.answer.specs.Refusals.{number_of}
 use Rattle.answer.specs.Said.{said}
 use Rattle.fraction.specs.Made.{Made, made, stopped}
 use Rattle.rules_problem.specs.Problem.{Problem, decoded}
@@ -44,7 +43,7 @@ module _ (ranking : Ranking) (strict : Strict ranking) where
   contradicts : {problem : Problem} → Sound problem → (lent : Lent) (answer : Answer) → run ranking problem ≡ stopped answer → NotRefused (after (cut_short answer) lent) → (place : ℕ) × (answer ≡ Contradictory place)
   unfolding NotRefused word_of after said
   contradicts {problem} sound lent answer h accepted =
-      ⊎_elim (λ says. says) (λ range. absurd (accepted (number_of range.0) (ap (λ a. (said a).word) range.3))) (stopped_either ranking problem strict sound answer h)
+      ⊎_elim (λ says. says) (λ range. absurd (accepted range.0 (ap (λ a. (said a).word) range.3))) (stopped_either ranking problem strict sound answer h)
 
   module _ {p q : Problem} (sound : Sound p) (sound' : Sound q) (same : SameUpToOrder p q) (lent lent' : Lent) (long : Long lent) (long' : Long lent') where
     -- Both runs finish: the same answer and the same table.

@@ -5,7 +5,6 @@ use mathlib.Core.Logic.{◌⊎◌, inl, inr}
 use mathlib.Core.Bool.{Bool, true, false}
 use Prim.Native.Nat.{ℕ}
 use native.Mathlib.Omega.{arith}
-use Rattle.answer.specs.declared.Reason.{Reason}
 use Rattle.answer.specs.declared.Answer.{Answer}
 use Rattle.answer.specs.declared.Answer.TheVariants.{Entailed, NotEntailed, Contradictory, Refused}
 use Rattle.answer.specs.Said.{entailed, not_entailed, said}
@@ -28,21 +27,21 @@ pub judged_count : (goal : Pair) (state : State) → (said (judged goal state)).
 unfolding judged said
 judged_count goal state = grind arith
 
-pub judged_not_refused : (goal : Pair) (state : State) (why : Reason) (place : ℕ) → judged goal state ≡ Refused why place → ⊥
+pub judged_not_refused : (goal : Pair) (state : State) (number place : ℕ) → judged goal state ≡ Refused number place → ⊥
 unfolding judged
-judged_not_refused goal state why place h = grind arith
+judged_not_refused goal state number place h = grind arith
 
 module _ (ranking : Ranking) (problem : Problem) (strict : Strict ranking) (sound : Sound problem) where
   -- A run that stops contradicts, or is refused since a number is outside the limits.
-  pub stopped_either : (answer : Answer) → run ranking problem ≡ stopped answer → ((place : ℕ) × (answer ≡ Contradictory place)) ⊎ ((why : Reason) × (place : ℕ) × Outside why × (answer ≡ Refused why place))
+  pub stopped_either : (answer : Answer) → run ranking problem ≡ stopped answer → ((place : ℕ) × (answer ≡ Contradictory place)) ⊎ ((number : ℕ) × (place : ℕ) × Outside number × (answer ≡ Refused number place))
   unfolding Ended
   stopped_either answer h = by answer (run_stopped ranking problem strict (sound_shaped problem sound) (sound_sides problem sound) answer h)
     where
-      by : (answer : Answer) → Ended problem.terms problem.pairs answer → ((place : ℕ) × (answer ≡ Contradictory place)) ⊎ ((why : Reason) × (place : ℕ) × Outside why × (answer ≡ Refused why place))
+      by : (answer : Answer) → Ended problem.terms problem.pairs answer → ((place : ℕ) × (answer ≡ Contradictory place)) ⊎ ((number : ℕ) × (place : ℕ) × Outside number × (answer ≡ Refused number place))
       by (Entailed solved) ended = absurd ended
       by (NotEntailed solved) ended = absurd ended
       by (Contradictory place) ended = inl (place, refl)
-      by (Refused why place) ended = inr (why, place, ended, refl)
+      by (Refused number place) ended = inr (number, place, ended, refl)
 
   -- Such an answer is neither entailed nor not-entailed.
   pub stopped_unfinished : (answer : Answer) → run ranking problem ≡ stopped answer → ((said answer).word ≡ entailed) ⊎ ((said answer).word ≡ not_entailed) → ⊥
@@ -50,7 +49,7 @@ module _ (ranking : Ranking) (problem : Problem) (strict : Strict ranking) (soun
   stopped_unfinished answer h finishes = grind (arith, stopped_either answer h)
 
   -- D2: what a run answers is true, unless a number is outside the limits.
-  pub answer_meant : (answer : Made Answer State) → run ranking problem ≡ answer → ((why : Reason) (place : ℕ) → Outside why × (run ranking problem ≡ stopped (Refused why place)) → ⊥) → Meant problem (said (answered (after_run problem answer))).word
+  pub answer_meant : (answer : Made Answer State) → run ranking problem ≡ answer → ((number place : ℕ) → Outside number × (run ranking problem ≡ stopped (Refused number place)) → ⊥) → Meant problem (said (answered (after_run problem answer))).word
   unfolding answered after_run judged said Meant
   answer_meant (made state) h inside = by (same_row state.table problem.goal.left problem.goal.right) refl
     where
@@ -59,6 +58,6 @@ module _ (ranking : Ranking) (problem : Problem) (strict : Strict ranking) (soun
       by false other = rw other (finished_not_entailed ranking problem strict sound state h other)
   answer_meant (stopped answer) h inside = by (stopped_either answer h)
     where
-      by : ((place : ℕ) × (answer ≡ Contradictory place)) ⊎ ((why : Reason) × (place : ℕ) × Outside why × (answer ≡ Refused why place)) → Meant problem (said answer).word
+      by : ((place : ℕ) × (answer ≡ Contradictory place)) ⊎ ((number : ℕ) × (place : ℕ) × Outside number × (answer ≡ Refused number place)) → Meant problem (said answer).word
       by (inl (place, same)) = subst (λ a. Meant problem (said a).word) (sym same) (stopped_contradictory ranking problem strict sound place (h ∙ ap stopped same))
-      by (inr (why, place, range, same)) = absurd (inside why place (range, h ∙ ap stopped same))
+      by (inr (number, place, range, same)) = absurd (inside number place (range, h ∙ ap stopped same))

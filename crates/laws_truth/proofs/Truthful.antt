@@ -8,10 +8,8 @@ use Prim.Native.Nat.{ℕ, ◌+◌, ◌*◌, ◌<◌}
 use native.Mathlib.Omega.{arith}
 use lib.ListN.{length, get_or}
 use lib.IntN.{pos, nat_abs}
-use Rattle.answer.specs.declared.Reason.{Reason}
 use Rattle.answer.specs.declared.Answer.{Answer}
 use Rattle.answer.specs.declared.Answer.TheVariants.{Refused}
-use Rattle.answer.specs.Refusals.{number_of}
 use Rattle.answer.specs.Said.{entailed, not_entailed, contradictory, said}
 use Rattle.fraction.specs.Limits.{Outside}
 use Rattle.fraction.specs.Made.{Made, made, stopped}
@@ -67,13 +65,13 @@ module _ (ranking : Ranking) (strict : Strict ranking) (problem : Problem) (soun
       (answer_meant ranking problem strict sound answer h inside)
 
   -- which its answer tells,
-  true_range : (answer : Made Answer State) → run ranking problem ≡ answer → (why : Reason) (place : ℕ) → ((left answer).answer ≡ Refused why place) ↔ OutOfRange ranking problem why place
+  true_range : (answer : Made Answer State) → run ranking problem ≡ answer → (number place : ℕ) → ((left answer).answer ≡ Refused number place) ↔ OutOfRange ranking problem number place
   unfolding left after after_run OutOfRange Ended
-  true_range (made state) h why place = (λ refuses. absurd (judged_not_refused problem.goal state why place refuses), λ stops. absurd (stopped_not_made (sym stops.1 ∙ h)))
-  true_range (stopped answer) h why place = (λ refuses. by (h ∙ ap stopped refuses), λ stops. let same = stops.1 in cc)
+  true_range (made state) h number place = (λ refuses. absurd (judged_not_refused problem.goal state number place refuses), λ stops. absurd (stopped_not_made (sym stops.1 ∙ h)))
+  true_range (stopped answer) h number place = (λ refuses. by (h ∙ ap stopped refuses), λ stops. let same = stops.1 in cc)
     where
-      by : run ranking problem ≡ stopped (Refused why place) → Outside why × (run ranking problem ≡ stopped (Refused why place))
-      by stops = (run_stopped ranking problem strict (sound_shaped problem sound) (sound_sides problem sound) (Refused why place) stops, stops)
+      by : run ranking problem ≡ stopped (Refused number place) → Outside number × (run ranking problem ≡ stopped (Refused number place))
+      by stops = (run_stopped ranking problem strict (sound_shaped problem sound) (sound_sides problem sound) (Refused number place) stops, stops)
 
   -- a finished table shows just what is forced,
   true_rows : (answer : Made Answer State) → run ranking problem ≡ answer → Finished (left answer) → (t u : ℕ) → t < length problem.terms → u < length problem.terms → EqualRows (left answer) t u ↔ Forced problem (record { left = t; right = u })
@@ -135,4 +133,4 @@ module _ (ranking : Ranking) (strict : Strict ranking) where
 -- A true outcome that is no refusal is that of a problem in range.
 pub said_in_range : {ranking : Ranking} {problem : Problem} {o : Outcome} → Truthful ranking problem o → NotRefused o → InRange ranking problem
 unfolding InRange NotRefused word_of said
-said_in_range {o = o} true-outcome passed why place out = passed (number_of why) (ap (λ answer. (said answer).word) ((true-outcome.range_exactly why place).1 out))
+said_in_range {o = o} true-outcome passed number place out = passed number (ap (λ answer. (said answer).word) ((true-outcome.range_exactly number place).1 out))

@@ -30,12 +30,8 @@ pub fn put_first(buf: &mut [u8], at: usize, answer: Answer) -> usize
         Answer::Entailed { solved } => put_said(buf, at, b"entailed ", 0, solved),
         Answer::NotEntailed { solved } => put_said(buf, at, b"not-entailed ", 0, solved),
         Answer::Contradictory { place } => put_said(buf, at, b"contradictory ", place, 0),
-        Answer::Refused { reason, place } => put_said(
-            buf,
-            at,
-            b"refused ",
-            usize::from(reason.number()),
-            place,
-        ),
+        Answer::Refused { number, place } => {
+            put_said(buf, at, b"refused ", usize::from(number), place)
+        }
     }
 }

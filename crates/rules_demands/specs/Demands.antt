@@ -3,7 +3,6 @@
 -- ranks no two columns alike.
 -- Main definitions: `Program`, `NothingPresumed`, `EqualIsTrue`. Assumes nothing.
 use Rattle.std.specs.Prelude.{◌≡◌, ◌↔◌, ◌⊎◌, List, ℕ, ◌+◌, ◌*◌, ◌<◌, length, get_or, pos}
-use Rattle.answer.specs.declared.Reason.{Reason}
 use Rattle.answer.specs.declared.Answer.TheVariants.{Refused}
 use Rattle.answer.specs.Said.{Word, entailed, not_entailed, contradictory, refused, said}
 use Rattle.fraction.specs.Limits.{Outside}
@@ -31,11 +30,11 @@ unfoldable pub NotRefused : Outcome → Type 0
 NotRefused o = (number : ℕ) → word_of o ≡ refused number → ⊥
 
 -- "the run laid down makes a number too large, at that place": it stops there with a refusal that says so
-unfoldable pub OutOfRange : Ranking → Problem → (why : Reason) (place : ℕ) → Type 0
-OutOfRange ranking problem why place = Outside why × (run ranking problem ≡ stopped (Refused why place))
+unfoldable pub OutOfRange : Ranking → Problem → (number place : ℕ) → Type 0
+OutOfRange ranking problem number place = Outside number × (run ranking problem ≡ stopped (Refused number place))
 
 unfoldable pub InRange : Ranking → Problem → Type 0
-InRange ranking problem = (why : Reason) (place : ℕ) → OutOfRange ranking problem why place → ⊥
+InRange ranking problem = (number place : ℕ) → OutOfRange ranking problem number place → ⊥
 
 -- The lists hold the same fraction for terms t and u in each column; "row t, column c stands at 65t + c".
 unfoldable pub EqualRows : Outcome → (t u : ℕ) → Type 0
@@ -56,7 +55,7 @@ pub record Truthful (ranking : Ranking) (problem : Problem) (o : Outcome) : Type
   -- "not-entailed otherwise"
   pub not_entailed_exactly : InRange ranking problem → (word_of o ≡ not_entailed) ↔ IsNotEntailed problem
   -- "Only exception: the range refusal, exactly when the run laid down makes a number too large, at that place."
-  pub range_exactly : (why : Reason) (place : ℕ) → (o.answer ≡ Refused why place) ↔ OutOfRange ranking problem why place
+  pub range_exactly : (number place : ℕ) → (o.answer ≡ Refused number place) ↔ OutOfRange ranking problem number place
   -- "In the finished table two terms have equal rows exactly if the assumptions force them equal."
   pub rows_exactly : Finished o → (t u : ℕ) → t < length problem.terms → u < length problem.terms
       → EqualRows o t u ↔ Forced problem (record { left = t; right = u })
@@ -66,7 +65,7 @@ pub record Truthful (ranking : Ranking) (problem : Problem) (o : Outcome) : Type
 -- Demand 2, "for each table that passes the first six tests": long enough lists, and a sound record.
 --
 -- What it rules out, each by one case of document 01 (laws in crate `cases_stand_ins`):
--- * a program that refuses all, for any reason at any place: case J is in range, so `range_exactly`;
+-- * a program that refuses all, with any number at any place: case J is in range, so `range_exactly`;
 -- * one that says not-entailed to all: in case I every reading gives both records of f(x) one number, so `entailed_exactly`;
 -- * one that leaves the unfolded rows: in case A the assumption forces terms 2 and 3 equal, whose rows before the fold differ,
 --   so `rows_exactly`;

@@ -14,7 +14,7 @@ unfoldable pub rows_listed : Answer → (n : ℕ) → ℕ
 rows_listed (Entailed solved) n = n
 rows_listed (NotEntailed solved) n = n
 rows_listed (Contradictory place) n = 0
-rows_listed (Refused why place) n = 0
+rows_listed (Refused number place) n = 0
 
 module _ (numerators denominators : List ℤ) where
   -- the lines of the first rows

@@ -7,7 +7,6 @@ use Prim.Native.Nat.{ℕ, ◌+◌, ◌*◌, ◌/◌, ◌%◌, ◌≤◌, ◌<◌
 use native.Mathlib.Omega.{arith}
 use lib.ListN.{length, get_or, get_or-eq_default}
 use lib.IntN.{ℤ, pos}
-use Rattle.answer.specs.declared.Reason.TheVariants as reason
 use Rattle.answer.specs.declared.Answer.TheVariants.{Entailed, Refused}
 use Rattle.fraction.specs.Exact.{whole, zero_ℚ}
 use Rattle.rules_run.specs.Row.{Table, TERMS, COLUMNS, PLACES, cell, row_of, column}
@@ -39,7 +38,7 @@ two_variables = 2 ∷ 1 ∷ 0 ∷ 1 ∷ variable ++ variable ++ 0 ∷ 1 ∷ []
 
 -- Refused with 7 at a place: both lists hold 0 at all 4,160 places, and behind those what was there.
 record RefusedWithZeros (place : ℕ) (lent : Lent) (o : Outcome) : Type 0 where
-  answer : o.answer ≡ Refused reason.Range place
+  answer : o.answer ≡ Refused 7 place
   numerators : (p : ℕ) → p < PLACES → get_or o.left.numerators p (pos 0) ≡ pos 0
   denominators : (p : ℕ) → p < PLACES → get_or o.left.denominators p (pos 0) ≡ pos 0
   numerators_beyond : (p : ℕ) → PLACES ≤ p → get_or o.left.numerators p (pos 0) ≡ get_or lent.numerators p (pos 0)
@@ -53,7 +52,7 @@ beyond : (g : (t c : ℕ) → ℤ) (list : List ℤ) (p : ℕ) → PLACES ≤ p 
 unfolding laid_out
 beyond g list p far = overwritten_beyond PLACES (λ p. g (p / COLUMNS) (p % COLUMNS)) list p far
 
-refused_with_zeros : (place : ℕ) (lent : Lent) → Long lent → RefusedWithZeros place lent (after (cut_short (Refused reason.Range place)) lent)
+refused_with_zeros : (place : ℕ) (lent : Lent) → Long lent → RefusedWithZeros place lent (after (cut_short (Refused 7 place)) lent)
 unfolding after zeros
 refused_with_zeros place lent long = record {
   answer = refl;
@@ -63,11 +62,11 @@ refused_with_zeros place lent long = record {
   denominators_beyond = beyond (λ t c. pos 0) lent.denominators;
 }
 
-once_stops : decision highest_number once_too_fine ≡ cut_short (Refused reason.Range 0)
+once_stops : decision highest_number once_too_fine ≡ cut_short (Refused 7 0)
 unfolding computed_answer variable gain once_too_fine
 once_stops = refl
 
-later_stops : decision highest_number later_too_fine ≡ cut_short (Refused reason.Range 1)
+later_stops : decision highest_number later_too_fine ≡ cut_short (Refused 7 1)
 unfolding computed_answer variable gain later_too_fine
 later_stops = refl
 

@@ -1,7 +1,7 @@
 -- What the rules answer to a byte string, with every rule open so that it computes.
 -- Main definition: `computed_answer`. Assumes nothing.
 use Rattle.std.specs.Prelude.{List, ℕ}
-use Rattle.answer.specs.declared.Reason.TheVariants as reason
+use Rattle.answer.specs.Refusals.{number_of}
 use Rattle.answer.specs.Said.{Said, said}
 use Rattle.rules_problem.specs.Bits.{bit_at, field, signed16}
 use Rattle.rules_problem.specs.Record.{fields_at, scaled, every, unless_faulty, kind_of}
@@ -18,6 +18,7 @@ unfolding
     answered
     after_reading
     after_run
+    number_of
     refuse
     term_at
     pair_at

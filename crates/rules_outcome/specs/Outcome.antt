@@ -3,6 +3,7 @@
 use Rattle.std.specs.Prelude.{Bool, ◌&&◌, cond, List, [], ◌∷◌, ℕ, zero, suc, ◌/◌, ◌%◌, ◌≤◌, length, leb, ℤ, pos}
 use Rattle.answer.specs.declared.Answer.{Answer}
 use Rattle.answer.specs.declared.Answer.TheVariants.{Refused}
+use Rattle.answer.specs.Refusals.{number_of}
 use Rattle.answer.specs.declared.Refusal.{Refusal}
 use Rattle.answer.specs.declared.Reason.TheVariants as reason
 use Rattle.fraction.specs.Made.{Made, made, stopped}
@@ -29,7 +30,7 @@ unfoldable pub decision : Ranking → (bytes : List ℕ) → Decision
 decision ranking bytes = after_reading ranking (decoded bytes)
 
 unfoldable pub answered : Decision → Answer
-answered (unread refusal) = Refused refusal.reason refusal.place
+answered (unread refusal) = Refused (number_of refusal.reason) refusal.place
 answered (cut_short answer) = answer
 answered (finished answer table) = answer
 

@@ -11,7 +11,7 @@ use Rattle.rules_problem.specs.Lookup.{call_of, inputs_of, same_function, alike,
 use Rattle.fraction.specs.Made.{Made, ◌>>=◌, tab, because}
 use Rattle.fraction.specs.Limits.{limit, within, tested, plus, minus, times, over}
 use Rattle.fraction.specs.Exact.{whole, zero_ℚ, one_ℚ, frac, worth, ◌+ℚ◌, neg_ℚ, ◌-ℚ◌, ◌*ℚ◌, inverse, ◌÷ℚ◌, eq_ℤ, eq_ℚ}
-use Rattle.answer.specs.declared.Reason.TheVariants as reason
+use Rattle.answer.specs.Refusals.{number_of}
 use Rattle.whole.specs.Gcd.{gcd, euclid}
 use Rattle.whole.specs.Signed.{signed}
 
@@ -76,6 +76,7 @@ unfolding
     ◌÷ℚ◌
     eq_ℤ
     eq_ℚ
+    number_of
     gcd
     euclid
     signed

@@ -1,6 +1,7 @@
 -- The run: build, close, then each assumption in file order.
 -- Main definitions: `Ranking`, `by_number`, `highest_number`, `run`, `judged`. Assumes nothing.
 use Rattle.std.specs.Prelude.{cond, List, [], ◌∷◌, ℕ, suc}
+use Rattle.answer.specs.Refusals.{number_of}
 use Rattle.answer.specs.declared.Answer.{Answer}
 use Rattle.answer.specs.declared.Answer.TheVariants.{Entailed, NotEntailed, Contradictory, Refused}
 use Rattle.fraction.specs.Made.{Made, made, ◌>>=◌, because}
@@ -27,7 +28,7 @@ highest_number terms = by_number
 -- what a run that stops at an assumption answers: 01, What comes back, the places of contradictory and 7
 unfoldable pub ends : (place : ℕ) → Stop → Answer
 ends place contradiction = Contradictory place
-ends place (outside why) = Refused why place
+ends place (outside why) = Refused (number_of why) place
 
 -- 01, The run, 3: "For each assumption in file order: merge its sides, then close."
 unfoldable pub assume : (rank : ℕ → ℕ) → List Term → (place : ℕ) → List Pair → State → Made Answer State

@@ -11,7 +11,9 @@ use native.Mathlib.Omega.{arith}
 use lib.IntN.{ℤ}
 use Rattle.answer.specs.declared.Answer.{Answer}
 use Rattle.answer.specs.declared.Answer.TheVariants.{Refused}
+use Rattle.answer.specs.Refusals.{number_of}
 use Rattle.answer.specs.declared.Reason.{Reason}
+use Rattle.answer.specs.declared.Refusal.{Refusal}
 use Rattle.fraction.specs.Made.{Made, made, stopped, ◌>>=◌, because}
 use Rattle.rules_problem.specs.declared.Term.{Term}
 use Rattle.rules_problem.specs.Problem.{Problem, decoded}
@@ -36,17 +38,17 @@ use Rattle.run_progress.proofs.Going.{when_going, open_going}
 use Rattle.run_begin.specs.Contract.{Begins}
 use Rattle.run_begin.proofs.Noted.{decoded_inputs, decoded_lookups}
 
--- The build is done where its answer with a place is, and is refused where that is.
-pub build_done : (step : Step) {built : Result (Unit {0}) Answer} {done : Unit {0}} → is_ok built ≡ is_ok step → built ≡ Ok done → step ≡ Ok tt
+-- The build is done where no refusal with a place is made of it, and is refused where one is.
+pub build_done : (step : Step) {built : Result (Unit {0}) Refusal} {done : Unit {0}} → is_ok built ≡ is_ok step → built ≡ Ok done → step ≡ Ok tt
 build_done (Ok x) same is = refl
 build_done (Err why) same is = absurd (false≢true (sym same ∙ ap is_ok is))
 
-pub build_refused : (step : Step) {built : Result (Unit {0}) Answer} {answer : Answer} → MatchResult step (λ x. built ≡ Ok x) (λ why. IsErrAnd built (λ a. a ≡ Refused why 0)) → built ≡ Err answer
-    → (why : Reason) × (step ≡ Err why) × (answer ≡ Refused why 0)
+pub build_refused : (step : Step) {built : Result (Unit {0}) Refusal} {refusal : Refusal} → MatchResult step (λ x. built ≡ Ok x) (λ why. IsErrAnd built (λ r. r ≡ record { reason = why; place = 0 })) → built ≡ Err refusal
+    → (why : Reason) × (step ≡ Err why) × (refusal ≡ record { reason = why; place = 0 })
 build_refused (Ok x) done is = absurd (false≢true (sym (ap is_ok is) ∙ ap is_ok done))
-build_refused (Err why) {built} {answer} stops is =
+build_refused (Err why) {built} {refusal} stops is =
     let (stop, was, same) = err_from_is_err_and built stops in
-    let one : ◌≡◌ {A = Result (Unit {0}) Answer} (Err stop) (Err answer) = sym was ∙ is in
+    let one : ◌≡◌ {A = Result (Unit {0}) Refusal} (Err stop) (Err refusal) = sym was ∙ is in
     (why, refl, cc)
 
 module _ (rank : ℕ → ℕ) (terms : List Term) where
@@ -55,7 +57,7 @@ module _ (rank : ℕ → ℕ) (terms : List Term) where
   after rows = because (ends 0) (because outside rows >>= λ table. close rank terms (record { table = table; solved = 0 }))
 
   -- Where a row is refused, the run has ended at place 0.
-  begin_refused : {why : Reason} → built terms [] ≡ stopped why → begin rank terms ≡ stopped (Refused why 0)
+  begin_refused : {why : Reason} → built terms [] ≡ stopped why → begin rank terms ≡ stopped (Refused (number_of why) 0)
   unfolding begin because ◌>>=◌ ends after
   begin_refused refused = ap after refused
 
@@ -67,7 +69,7 @@ module _ (rank : ℕ → ℕ) (terms : List Term) where
 module _ {bytes : List ℕ} {n : ℕ} {old : Store} {nums dens : List ℤ} {sets heads inputs : List ℕ} {step : Step} (asked : Beginnable bytes n old)
     (builds : Builds bytes n step old (record { work = record { nums = nums; dens = dens; sets = sets }; heads = heads; inputs = inputs })) where
   -- A row is refused.
-  pub begins_refused : {why : Reason} → step ≡ Err why → Begins bytes n (Err (Refused why 0)) old (record { work = record { nums = nums; dens = dens; sets = sets }; heads = heads; inputs = inputs })
+  pub begins_refused : {why : Reason} → step ≡ Err why → Begins bytes n (Err (Refused (number_of why) 0)) old (record { work = record { nums = nums; dens = dens; sets = sets }; heads = heads; inputs = inputs })
   unfolding ran
   begins_refused is =
       record {

@@ -5,7 +5,7 @@ ghost use Rattle.run_build.specs.Contract.{Beginnable};
 ghost use Rattle.run_build.specs.Store.{store};
 ghost use Rattle.run_begin.specs.Contract.{Begins};
 
-use answer::Answer;
+use answer::{Answer, Refusal};
 use rules_problem::TERMS;
 
 // Closing has one turn more than there are terms, and solves at most one unknown in each.
@@ -25,7 +25,7 @@ pub fn begin(
     ensures { Begins bytes.now n result (store nums.old dens.old heads.old inputs.old sets.old) (store nums.new dens.new heads.new inputs.new sets.new) }
 {
     let built = run_build::build(bytes, n, nums, dens, heads, inputs, sets);
-    built.map_err(|reason| Answer::Refused { reason, place: 0 })?;
+    built.map_err(|reason| Refusal { reason, place: 0 })?;
     let closed = run_close::close(nums, dens, n, heads, inputs, sets, 0);
     run_progress::placed(0, closed, MOST_SOLVED)
 }

@@ -4,7 +4,7 @@
 ghost use Rattle.std.specs.Prelude.{◌≡◌, ◌≤◌, IfOk};
 ghost use Rattle.run_progress.specs.Ran.{ended, Places};
 
-use answer::Answer;
+use answer::{Answer, Refusal};
 use run_merge::Halt;
 
 // What a stop at an assumption answers.
@@ -14,7 +14,7 @@ fn ended(place: usize, halt: Halt) -> Answer
 {
     match halt {
         Halt::Contradiction => Answer::Contradictory { place },
-        Halt::Refused(reason) => Answer::Refused { reason, place },
+        Halt::Refused(reason) => Refusal { reason, place }.into(),
     }
 }
 

@@ -34,16 +34,27 @@ impl<const NUMS: usize, const DENS: usize> Decision<NUMS, DENS> {
         self.answer = decide::decide(bytes, &mut self.nums, &mut self.dens);
     }
 
-    // The listing of the problem that was decided, or the number with which it is refused.
-    #[tactic(auto, unfolding(list_lines::specs::Contract::place_of))]
     fn list(&self, rt: &impl Print, bytes: &[u8]) -> io::Result<()> {
-        let mut text = [0u8; PAGE];
-        match list_page::listing_of(&mut text, bytes, self.answer, &self.nums, &self.dens) {
-            Ok(end) => io::writer(rt).write_all(&text[..end]),
-            Err(why) => {
-                let number = why.reason.number();
-                println!(rt; "not listed: {number}")
-            }
+        write_listing(rt, bytes, self.answer, &self.nums, &self.dens)
+    }
+}
+
+// The listing of a problem that was decided, or the number with which it is refused. It is one function for all sizes of the lists, so that its text
+// takes room on the stack once.
+#[tactic(auto, unfolding(list_lines::specs::Contract::place_of))]
+fn write_listing(
+    rt: &impl Print,
+    bytes: &[u8],
+    answer: Answer,
+    nums: &[i32],
+    dens: &[i32],
+) -> io::Result<()> {
+    let mut text = [0u8; PAGE];
+    match list_page::listing_of(&mut text, bytes, answer, nums, dens) {
+        Ok(end) => io::writer(rt).write_all(&text[..end]),
+        Err(why) => {
+            let number = why.reason.number();
+            println!(rt; "not listed: {number}")
         }
     }
 }
@@ -130,14 +141,20 @@ fn read<'a>(digits: &[u8], bytes: &'a mut [u8]) -> &'a [u8] {
     &bytes[..n]
 }
 
-fn line(rt: &impl Print, text: &[u8], base: &mut Whole) -> io::Result<()> {
+fn problem(rt: &impl Print, text: &[u8], base: &mut Whole) -> io::Result<()> {
     let mut bytes = [0u8; INPUT];
     match text {
-        [b'#', ..] => io::writer(rt).write_all(text),
         [b'<', digits @ ..] => short::<TOO_FEW, PLACES>(rt, read(digits, &mut bytes)),
         [b'>', digits @ ..] => short::<PLACES, TOO_FEW>(rt, read(digits, &mut bytes)),
         [b'~', digits @ ..] => member(rt, read(digits, &mut bytes), base),
         _ => plain(rt, read(text, &mut bytes), base),
+    }
+}
+
+fn line(rt: &impl Print, text: &[u8], base: &mut Whole) -> io::Result<()> {
+    match text {
+        [b'#', ..] => io::writer(rt).write_all(text),
+        _ => problem(rt, text, base),
     }
 }
 

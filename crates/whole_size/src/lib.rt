@@ -35,7 +35,8 @@ pub fn put_back(like: i64, size: u64) -> i32
     ensures { result ≡ signed like size }
 {
     let upward = narrow(size);
-    if like.is_negative() {
+    let negative = like.is_negative();
+    if negative {
         opposite(upward)
     } else {
         upward

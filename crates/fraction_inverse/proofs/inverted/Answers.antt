@@ -26,7 +26,7 @@ returns-then-bottom-eq0 c = inverse_zero c.requires (sym (top_size c.requires c.
 
 pub returns : goal.returns
 returns c = let num = good_num c.requires in
-    let like = read_back {w = w64} (c.from.ensures ∙ to_z-of_z {w = w32} num) (sfits_widen {w = w32} {w' = w64} tt num) in
+    let like = read_back {w = w64} (c.wide.ensures ∙ to_z-of_z {w = w32} num) (sfits_widen {w = w32} {w' = w64} tt num) in
     inverse_is c.requires (omega (arith, top_size c.requires c.size-bottom.ensures, c.if-bottom-eq0.false))
     (c.made.ensures.above ∙ ap₂ signed like (bottom_size c.requires c.size.ensures))
     (c.made.ensures.below ∙ ap pos (top_size c.requires c.size-bottom.ensures))

@@ -44,7 +44,7 @@ obeys_iff number D v own (Lookup2 symbol first second) self over = (λ obeys. re
 obeys_iff number D v own (Lookup3 symbol first second third) self over = (λ obeys. refl, λ same. tt)
 
 -- The inputs of a lookup are among its inputs as a term, so they are terms of the list.
-lookup_inputs : (kind : Kind) (i : ℕ) → Memᴰ i (inputs_of kind) → Memᴰ i (all_inputs kind)
+pub lookup_inputs : (kind : Kind) (i : ℕ) → Memᴰ i (inputs_of kind) → Memᴰ i (all_inputs kind)
 unfolding all_inputs inputs_of call_of
 lookup_inputs (Variable symbol) i h = h
 lookup_inputs (Constant held) i h = h

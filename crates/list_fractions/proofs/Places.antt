@@ -1,12 +1,12 @@
 -- The places of one row in the two lists.
--- Main results: `places_length`, `places_at`, `held_column`, `all_at`, `all_of_row`. Assume nothing.
+-- Main results: `places_length`, `places_at`, `held_column`, `all_step`, `all_end`, `all_at`, `all_of_row`. Assume nothing.
 use mathlib.Core.Path.{◌≡◌, refl, ap, ◌∙◌}
 use mathlib.Core.Bool.{true, ◌&&◌}
 use mathlib.Core.List.{List, [], ◌∷◌}
 use Prim.Native.Nat.{ℕ, zero, suc, ◌+◌, ◌*◌, ◌-◌, ◌≤◌, ◌<◌}
 use native.Mathlib.Omega.{arith}
-use lib.ListN.{length, get_or, take, drop, length-drop}
-use lib.Seq.{length-take-le, get_or-take, get_or-drop}
+use lib.ListN.{length, get_or, take, drop, length-drop, drop_of_length-le}
+use lib.Seq.{length-take-le, get_or-take, get_or-drop, drop-cons}
 use lib.IntN.{ℤ, pos, nat_abs}
 use Rattle.std.specs.List.{list_all, zip}
 use Rattle.fraction.specs.Exact.{frac}
@@ -31,6 +31,16 @@ held_column [] dens c n d = absurd (omega arith)
 held_column (num ∷ nums) [] c n d = absurd (omega arith)
 held_column (num ∷ nums) (den ∷ dens) zero n d = refl
 held_column (num ∷ nums) (den ∷ dens) (suc c) n d = held_column nums dens c (omega arith) (omega arith)
+
+-- The test of all places goes by the first, and then the others.
+pub all_step : (nums dens : List ℤ) (c : ℕ) → c < length nums → c < length dens
+    → all_fractions (drop c nums) (drop c dens) ≡ (is_fraction (get_or nums c (pos 0)) (get_or dens c (pos 0)) && all_fractions (drop (suc c) nums) (drop (suc c) dens))
+unfolding all_fractions
+all_step nums dens c n d = rw (drop-cons nums c (pos 0) n, drop-cons dens c (pos 0) d)
+
+pub all_end : (nums dens : List ℤ) (c : ℕ) → length nums ≤ c → all_fractions (drop c nums) (drop c dens) ≡ true
+unfolding all_fractions
+all_end nums dens c end = rw (drop_of_length-le nums end)
 
 -- What holds of all places holds of each.
 pub all_at : (nums dens : List ℤ) (c : ℕ) → c < length nums → c < length dens → all_fractions nums dens ≡ true → is_fraction (get_or nums c (pos 0)) (get_or dens c (pos 0)) ≡ true

@@ -1,14 +1,14 @@
 -- The text of a piece by its parts, and how long it can be.
--- Main results: `piece_of_zero`, `piece_of_parts`, `shown_within`, `piece_length`, `pieces_length`. Assume nothing.
+-- Main results: `over_one`, `over_more`, `top_fits`, `term_of_constant`, `term_of_column`, `piece_of_zero`, `piece_of_parts`, `shown_within`, `piece_length`, `pieces_length`. Assume nothing.
 use mathlib.Core.Path.{◌≡◌, refl, sym, ap, ap₂, ◌∙◌}
 use mathlib.Core.Bool.{Bool, true, false, ◌&&◌, cond}
-use mathlib.Core.List.{List, [], ◌++◌, append_assoc}
+use mathlib.Core.List.{List, [], ◌++◌, append-nil, append_assoc}
 use Prim.Native.Nat.{ℕ, zero, suc, ◌*◌, ◌≤◌, ◌<◌}
 use native.Mathlib.Omega.{arith}
 use lib.Dec.{eqb, leb}
 use lib.ListN.{length, length-append}
 use lib.IntN.{ℤ, pos, negsuc, nat_abs}
-use borrow.Author.Tests.{ne_eqb, le-leb, leb-true}
+use borrow.Author.Tests.{eq-eqb, ne_eqb, le-leb, leb-true}
 use Rattle.whole.specs.Gcd.{gcd}
 use Rattle.whole.proofs.Lowest.{gcd_symmetric}
 use Rattle.whole.proofs.Sizes.{size_zero}
@@ -23,12 +23,24 @@ use Rattle.list_decimal.proofs.Decimal.{decimal_length}
 use Rattle.list_pieces.specs.Contract.{over_text}
 use Rattle.list_fractions.proofs.Fractions.{and_true, Shown}
 
--- A number that is not whole has a slash and its denominator.
+-- A whole number has no denominator; any other has a slash and its denominator.
+pub over_one : (top bottom : ℕ) → bottom ≡ 1 → over_text top bottom ≡ decimal top
+unfolding over_text
+over_one top bottom one = rw (eq-eqb bottom 1 one) (append-nil (decimal top))
+
 pub over_more : (top bottom : ℕ) → (bottom ≡ 1 → ⊥) → over_text top bottom ≡ decimal top ++ ascii "/" ++ decimal bottom
 unfolding over_text
 over_more top bottom more = rw (ne_eqb bottom 1 more) (sym (append_assoc (decimal top) (ascii "/") (decimal bottom)))
 
--- A column other than the constant has its term.
+pub top_fits : (top bottom : ℕ) → length (decimal top) ≤ length (over_text top bottom)
+unfolding over_text
+top_fits top bottom = omega (arith, length-append (decimal top) (cond (eqb bottom 1) [] (ascii "/" ++ decimal bottom)))
+
+-- The constant has no term; any other column has its own.
+pub term_of_constant : (c : ℕ) → c ≡ constant → term_text c ≡ []
+unfolding term_text
+term_of_constant c is = rw (eq-eqb c constant is)
+
 pub term_of_column : (c : ℕ) → (c ≡ constant → ⊥) → term_text c ≡ ascii "*t" ++ decimal c
 unfolding term_text
 term_of_column c other = rw (ne_eqb c constant other)

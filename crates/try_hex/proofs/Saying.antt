@@ -1,11 +1,12 @@
 -- The bytes that a text says, one after the other, and its first line.
--- Main definitions: `ReadTo`, `LineTo`. Main results: `first_at`, `first_beyond`, `reads_on`, `reads_no_more`, `reads_full`, `line_ends`, `line_goes_on`, `line_is_all`. Assume nothing.
+-- Main definitions: `ReadTo`, `LineTo`. Main results: `first_at`, `first_beyond`, `first_inside`, `reads_on`, `reads_no_more`, `reads_full`, `line_ends`, `line_goes_on`, `line_is_all`. Assume nothing.
 use Rattle.std.specs.Prelude.{Some, None}
 use mathlib.Core.Path.{◌≡◌, refl, sym, ap, ◌∙◌}
 use mathlib.Core.List.{List, [], ◌∷◌, ◌++◌}
 use Prim.Native.Nat.{ℕ, suc, ◌+◌, ◌-◌, ◌*◌, ◌≤◌, ◌<◌}
 use native.Mathlib.Nat.{add-zero}
 use native.Mathlib.Numerals.{add-one}
+use native.Mathlib.Decide.{dec_le}
 use native.Mathlib.Omega.{arith}
 use lib.ListN.{length, take, drop, get_or, set, length-drop, length-set}
 use lib.Seq.{drop-cons, drop-drop, drop-length, take-suc, take_all, get_or-drop}
@@ -29,6 +30,16 @@ module _ (text : List ℕ) (at : ℕ) where
   pub first_at : at + 2 ≤ length text → byte_of (get_or text at 0) (get_or text (at + 1) 0) ≡ first_of (drop at text)
   unfolding first_of
   first_at inside = sym (rw (drop-cons text at 0 (omega arith), drop-cons text (suc at) 0 (omega arith), add-one))
+
+  pub first_inside : (b : ℕ) → first_of (drop at text) ≡ Some b → at + 2 ≤ length text
+  first_inside b said = by (dec_le (at + 2) (length text))
+    where
+      by : Dec (at + 2 ≤ length text) → at + 2 ≤ length text
+      by (yes inside) = inside
+      by (no beyond) =
+          let nothing = first_beyond (omega arith) in
+          let no_way : ◌≡◌ {A = ℕ} 0 1 = cc in
+          absurd (omega arith)
 
 -- What a text says: its first byte and what the rest says, or nothing.
 says_first : (text : List ℕ) (b : ℕ) → first_of text ≡ Some b → bytes_of text ≡ b ∷ bytes_of (drop 2 text)

@@ -36,9 +36,5 @@ pub fn put_back(like: i64, size: u64) -> i32
 {
     let upward = narrow(size);
     let negative = like.is_negative();
-    if negative {
-        opposite(upward)
-    } else {
-        upward
-    }
+    if negative { opposite(upward) } else { upward }
 }

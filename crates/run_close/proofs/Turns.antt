@@ -1,5 +1,5 @@
 -- Closing, turn by turn.
--- Main results: `closing_idle`, `closing_starts`, `closing_ends`, `closing_searches`, `closing_over`, `pair_below`, `closing_merges`, `closing_merged`. Assume nothing.
+-- Main results: `closing_idle`, `closing_starts`, `closing_ends`, `closing_searches`, `closing_over`, `pair_below`, `closing_merges`, `closing_merged`, `closing_stops`, `closing_goes_on`. Assume nothing.
 use Rattle.std.specs.Prelude.{Result, Err, Ok, Some}
 use Rattle.std.proofs.lemmas.Result.{IfOk-at_ok}
 use Rattle.run_merge.specs.declared.Halt.{Halt}
@@ -199,3 +199,10 @@ module _ {n solved : ℕ} {heads inputs : List ℕ} {old : Work} {count turns : 
               stopped_so : (halt : Halt) (terms : List Term) → merged (Err halt) count (table_of n new) >>= close_for (n + 1 - (turns + 1)) by_number terms ≡ closed (Err halt) (table_of n new)
               stopped_so Contradiction terms = refl
               stopped_so (Refused why) terms = refl
+
+          -- A merge that stops ends closing, whatever it stops with, and after another the loop goes on.
+          pub closing_stops : {halt : Halt} → answer ≡ Err halt → Closes n solved heads inputs (Err halt) old new
+          closing_stops {halt} is = closing_merged.stops halt is
+
+          pub closing_goes_on : {more : ℕ} → answer ≡ Ok more → Closing n solved heads inputs old (count + more) (turns + 1) new waiting₂
+          closing_goes_on {more} is = closing_merged.on more is

@@ -1,8 +1,10 @@
 -- What holds while closing or the run goes on.
 -- Main results: `placed_ends`, `when_going`, `open_going`. Assume nothing.
-use Rattle.std.specs.Prelude.{Err, Ok, Result, IfOk, OnOk, IsErrAnd, MatchResult}
-use Rattle.std.proofs.lemmas.Result.{err_from_is_err_and}
+use Rattle.std.specs.Prelude.{Err, Ok, Result, IfOk, OnOk}
+use Rattle.answer.specs.Refusals.{number_of}
 use Rattle.answer.specs.declared.Answer.{Answer}
+use Rattle.answer.specs.declared.Answer.TheVariants.{Contradictory, Refused as Answered}
+use Rattle.answer.specs.declared.Reason.{Reason}
 use Rattle.run_merge.specs.declared.Halt.{Halt}
 use Rattle.run_merge.specs.declared.Halt.TheVariants.{Contradiction, Refused}
 use mathlib.Core.Path.{◌≡◌, refl}
@@ -12,19 +14,15 @@ use Rattle.fraction.specs.Made.{because}
 use Rattle.fraction.proofs.Making.{stopped_not_made}
 use Rattle.rules_run.specs.Run.{ends}
 use Rattle.run_close.specs.Outcome.{closed}
-use Rattle.run_progress.specs.Ran.{ran, ended, Places}
+use Rattle.run_progress.specs.Ran.{ran, Places}
 
 -- A count goes on, and a stop ends the run with its answer.
-pub placed_ends : {place most : ℕ} (closing : Result ℕ Halt) {r : Result ℕ Answer} → IfOk closing (λ count. count ≤ most)
-    → MatchResult closing (λ count. r ≡ Ok count) (λ halt. IsErrAnd r (λ answer. answer ≡ ended place halt)) → Places place closing most r
-unfolding because ends closed ran ended
-placed_ends (Ok count) few goes_on = rw goes_on (record { answers = λ table. refl; counted = few })
-placed_ends (Err Contradiction) {r} few stops =
-    let (answer, is, same) = err_from_is_err_and r stops in
-    rw (is, same) (record { answers = λ table. refl; counted = tt })
-placed_ends (Err (Refused why)) {r} few stops =
-    let (answer, is, same) = err_from_is_err_and r stops in
-    rw (is, same) (record { answers = λ table. refl; counted = tt })
+pub placed_ends : {place most : ℕ} (closing : Result ℕ Halt) {r : Result ℕ Answer} → IfOk closing (λ count. count ≤ most) → ((count : ℕ) → closing ≡ Ok count → r ≡ Ok count)
+    → (closing ≡ Err Contradiction → r ≡ Err (Contradictory place)) → ((why : Reason) → closing ≡ Err (Refused why) → r ≡ Err (Answered (number_of why) place)) → Places place closing most r
+unfolding because ends closed ran
+placed_ends (Ok count) few goes_on contradicts refuses = rw (goes_on count refl) (record { answers = λ table. refl; counted = few })
+placed_ends (Err Contradiction) few goes_on contradicts refuses = rw (contradicts refl) (record { answers = λ table. refl; counted = tt })
+placed_ends (Err (Refused why)) few goes_on contradicts refuses = rw (refuses why refl) (record { answers = λ table. refl; counted = tt })
 
 -- What holds where the run goes on with a count holds while it goes on.
 pub when_going : {holds : Type 0} (r : Result ℕ Answer) → ((count : ℕ) → r ≡ Ok count → holds) → OnOk r holds

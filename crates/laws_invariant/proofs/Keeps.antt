@@ -11,7 +11,7 @@ use Rattle.fraction.proofs.Making.{bind_made, because_made, stopped_not_made}
 use Rattle.laws_linear.specs.Form.{Form, fold_form}
 use Rattle.laws_linear.proofs.Fold.{fold_equal}
 use Rattle.rules_run.specs.Row.{Row, Table, TERMS, COLUMNS, constant, column, row_of, cell, same_row}
-use Rattle.rules_run.specs.Merge.{State, contradiction, outside, difference, pivot, folded, solve, settle, merge}
+use Rattle.rules_run.specs.Merge.{State, contradiction, refused_for, difference, pivot, folded, solve, settle, merge}
 use Rattle.laws_invariant.specs.Rows.{EqualCells, solved_form}
 use Rattle.laws_invariant.proofs.Pivot.{pivot_some}
 use Rattle.laws_invariant.proofs.Rows.{same_row_equal}
@@ -36,7 +36,7 @@ module _ (rank : ℕ → ℕ) (state after : State) where
   settle_keeps_equal : (d : Row) (o : Option ℕ) → pivot rank TERMS d ≡ o → settle d state o ≡ made after → (i j : ℕ) → same_row state.table i j ≡ true → same_row after.table i j ≡ true
   unfolding settle
   settle_keeps_equal d (some p) found h i j same =
-      let solves = solve_made p d state after (because_made outside (solve p d state) after h) in
+      let solves = solve_made p d state after (because_made refused_for (solve p d state) after h) in
       let inside : p < COLUMNS = column_below (omega (arith, (pivot_some rank d TERMS p found).below)) in
       tests_equal p (solved_form p (column d)) state.table after.table inside solves.folds i j same
   settle_keeps_equal d none empty h i j same = by (eq_ℚ (column d constant) zero_ℚ) h
@@ -49,5 +49,5 @@ module _ (rank : ℕ → ℕ) (state after : State) where
   pub merge_keeps_equal : (t u : ℕ) → merge rank t u state ≡ made after → (i j : ℕ) → same_row state.table i j ≡ true → same_row after.table i j ≡ true
   unfolding merge
   merge_keeps_equal t u h =
-      let (d, first, second) = bind_made (because outside (difference (row_of state.table t) (row_of state.table u))) (λ d. settle d state (pivot rank TERMS d)) after h in
+      let (d, first, second) = bind_made (because refused_for (difference (row_of state.table t) (row_of state.table u))) (λ d. settle d state (pivot rank TERMS d)) after h in
       settle_keeps_equal d (pivot rank TERMS d) refl second

@@ -32,7 +32,7 @@ use Rattle.rules_problem.proofs.Recorded.{Recorded, variable, constant, gain, su
 use Rattle.rules_problem.proofs.Widths.{scaled_in_record}
 use Rattle.rules_run.specs.Row.{Row, Table, TERMS, COLUMNS, constant as constantColumn, column, row_of, cell, row}
 use Rattle.rules_run.specs.Build.{alone, built_column, built}
-use Rattle.rules_run.specs.Merge.{State, Stop, outside, pivot, folded_column, folded, solve, settle, merge}
+use Rattle.rules_run.specs.Merge.{State, Stop, refused_for, pivot, folded_column, folded, solve, settle, merge}
 use Rattle.rules_run.specs.Close.{due, close_for, close}
 use Rattle.rules_run.specs.Run.{Ranking, ends, assume, begin, run}
 use Rattle.laws_invariant.proofs.Range.{answers_cond}
@@ -148,7 +148,7 @@ module _ (rank : ℕ → ℕ) where
   unfolding settle solve
   settle_limited d state before none = answers_cond (eq_ℚ (column d constantColumn) zero_ℚ) (if_made before) (if_stopped tt)
   settle_limited d state before (some p) =
-      answers_because outside
+      answers_because refused_for
       (answers_bind (anything _) (λ form any. answers_bind (folded_limited p form state.table) (λ table inside. if_made inside)))
       (λ why any. tt)
 
@@ -194,6 +194,6 @@ run_limited ranking bytes problem read state h = answers_made whole_run h
     whole_run =
         answers_bind
         (answers_because (ends 0)
-        (answers_bind (answers_because outside (built_limited terms [] held empty) (λ why any. tt)) (λ table before. close_limited (ranking terms) terms (suc (length terms)) _ before))
+        (answers_bind (answers_because refused_for (built_limited terms [] held empty) (λ why any. tt)) (λ table before. close_limited (ranking terms) terms (suc (length terms)) _ before))
         (λ why any. tt))
         (assume_limited (ranking terms) terms 1 problem.pairs)

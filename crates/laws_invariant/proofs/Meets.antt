@@ -14,7 +14,7 @@ use Rattle.laws_linear.specs.Form.{fold_form}
 use Rattle.laws_linear.proofs.Fold.{fold_equal, fold_minus}
 use Rattle.laws_linear.proofs.Upto.{last_or_before}
 use Rattle.rules_run.specs.Row.{Row, Table, TERMS, COLUMNS, constant, column, row_of, cell, same_row}
-use Rattle.rules_run.specs.Merge.{State, contradiction, outside, difference, pivot, solve, settle, merge}
+use Rattle.rules_run.specs.Merge.{State, contradiction, refused_for, difference, pivot, solve, settle, merge}
 use Rattle.laws_invariant.specs.Rows.{EqualCells, solved_form}
 use Rattle.laws_invariant.proofs.Pivot.{Pivot, pivot_some, pivot_none}
 use Rattle.laws_invariant.proofs.Rows.{same_row_equal}
@@ -48,7 +48,7 @@ module _ (rank : ℕ → ℕ) (state after : State) (t u : ℕ) where
   settle_meets : (d : Row) → Differs state.table t u d → (o : Option ℕ) → pivot rank TERMS d ≡ o → settle d state o ≡ made after → EqualCells after.table t u
   unfolding settle
   settle_meets d differs (some p) found h =
-      solve_meets differs (pivot_some rank d TERMS p found) (solve_made p d state after (because_made outside (solve p d state) after h))
+      solve_meets differs (pivot_some rank d TERMS p found) (solve_made p d state after (because_made refused_for (solve p d state) after h))
   settle_meets d differs none empty h = by (eq_ℚ (column d constant) zero_ℚ) refl h
     where
       by : (b : Bool) → eq_ℚ (column d constant) zero_ℚ ≡ b → cond b (made state) (stopped contradiction) ≡ made after → EqualCells after.table t u
@@ -59,5 +59,5 @@ module _ (rank : ℕ → ℕ) (state after : State) (t u : ℕ) where
   pub merge_meets : merge rank t u state ≡ made after → same_row after.table t u ≡ true
   unfolding merge
   merge_meets h =
-      let (d, first, second) = bind_made (because outside (difference (row_of state.table t) (row_of state.table u))) (λ d. settle d state (pivot rank TERMS d)) after h in
-      (same_row_equal after.table t u).1 (settle_meets d (rows_differ (because_made outside _ d first)) (pivot rank TERMS d) refl second)
+      let (d, first, second) = bind_made (because refused_for (difference (row_of state.table t) (row_of state.table u))) (λ d. settle d state (pivot rank TERMS d)) after h in
+      (same_row_equal after.table t u).1 (settle_meets d (rows_differ (because_made refused_for _ d first)) (pivot rank TERMS d) refl second)

@@ -15,7 +15,7 @@ use Rattle.laws_linear.proofs.Eval.{eval_constant}
 use Rattle.rules_problem.specs.declared.Term.{Term}
 use Rattle.rules_problem.specs.Problem.{Pair}
 use Rattle.rules_run.specs.Row.{Row, TERMS, constant, column, cell}
-use Rattle.rules_run.specs.Merge.{State, contradiction, outside, pivot, solve, settle, merge}
+use Rattle.rules_run.specs.Merge.{State, contradiction, refused_for, pivot, solve, settle, merge}
 use Rattle.laws_invariant.specs.Rows.{EqualCells}
 use Rattle.laws_invariant.specs.Invariant.{OneToOne, ValuesMeet, Equates, NoneMeets, Invariant, Stopped}
 use Rattle.laws_invariant.proofs.Meets.{Differs, rows_differ, solve_meets, constant_only}
@@ -49,7 +49,7 @@ module _ (rank : ℕ → ℕ) (terms : List Term) (inForce met : List Pair) (sta
     (equates : Equates terms inForce t u) (inv : Invariant rank terms inForce met state) where
   settle_answers : (d : Row) → Differs state.table t u d → (o : Option ℕ) → pivot rank TERMS d ≡ o → Answers (Merged rank terms inForce met t u state) (Stopped terms inForce) (settle d state o)
   unfolding settle Stopped NoneMeets Equates
-  settle_answers d differs (some p) found = answers_because outside (answers_with (solve_ranged p d state) solved) (λ why range. range)
+  settle_answers d differs (some p) found = answers_because refused_for (answers_with (solve_ranged p d state) solved) (λ why range. range)
     where
       solved : (after : State) → solve p d state ≡ made after → Merged rank terms inForce met t u state after
       solved after h =
@@ -82,7 +82,7 @@ module _ (rank : ℕ → ℕ) (terms : List Term) (inForce met : List Pair) (sta
   unfolding merge cell Stopped
   merge_answers =
       answers_bind
-      (answers_because outside (answers_with (difference_ranged _ _) (λ d h. rows_differ h)) (λ why range. range))
+      (answers_because refused_for (answers_with (difference_ranged _ _) (λ d h. rows_differ h)) (λ why range. range))
       (λ d differs. settle_answers d differs (pivot rank TERMS d) refl)
 
   pub merge_made : (after : State) → merge rank t u state ≡ made after → Merged rank terms inForce met t u state after

@@ -16,7 +16,7 @@ use Rattle.fraction.proofs.Answers.{Answers, if_made, answers_made, answers_stop
 use Rattle.rules_problem.specs.declared.Term.{Term}
 use Rattle.rules_problem.specs.Lookup.{kind_at}
 use Rattle.rules_problem.specs.Problem.{Pair, Problem}
-use Rattle.rules_run.specs.Merge.{State, Stop, contradiction, outside, merge}
+use Rattle.rules_run.specs.Merge.{State, Stop, contradiction, outside, refused_for, merge}
 use Rattle.rules_run.specs.Close.{close}
 use Rattle.rules_run.specs.Run.{Ranking, ends, assume, begin, run}
 use Rattle.laws_invariant.specs.Rows.{EqualCells}
@@ -56,14 +56,14 @@ module _ (rank : ℕ → ℕ) (terms : List Term) (one-to-one : OneToOne rank) (
     ends_ended : (place : ℕ) (inForce : List Pair) → inForce ≡ take place pairs → (stop : Stop) → Stopped terms inForce stop → Ended terms pairs (ends place stop)
     unfolding ends Stopped Ended
     ends_ended place inForce upto contradiction none = subst (NoneMeets terms) upto none
-    ends_ended place inForce upto (outside why) range = range
+    ends_ended place inForce upto (outside number) range = range
 
     -- Build and the first closing.
     begin_answers : Answers (Completed rank terms [] []) (Ended terms pairs) (begin rank terms)
     unfolding begin Stopped
     begin_answers =
         answers_because (ends 0)
-        (answers_bind (answers_because outside (answers_with (built_ranged terms []) (build_invariant terms shaped rank)) (λ why range. range))
+        (answers_bind (answers_because refused_for (answers_with (built_ranged terms []) (build_invariant terms shaped rank)) (λ why range. range))
         (λ table inv. close_answers rank terms [] [] one-to-one shaped _ inv))
         (ends_ended 0 [] refl)
 

@@ -3,7 +3,6 @@
 use Rattle.std.specs.Prelude.{◌≡◌, ◌≢◌, ◌⊎◌, Bool, true, false, ◌&&◌, cond, ℕ, zero, suc, ◌+◌, ◌≤◌, ◌<◌, length, take}
 use mathlib.Core.List.{List, Memᴰ}
 use Rattle.answer.specs.declared.Answer.{Answer}
-use Rattle.answer.specs.Refusals.{number_of}
 use Rattle.answer.specs.declared.Answer.TheVariants.{Entailed, NotEntailed, Contradictory, Refused}
 use Rattle.fraction.specs.Exact.{ℚ, zero_ℚ, one_ℚ, eq_ℚ}
 use Rattle.fraction.specs.Limits.{Outside}
@@ -107,7 +106,7 @@ pub record Completed (rank : ℕ → ℕ) (terms : List Term) (inForce met : Lis
 -- What a stop means with the assumptions `inForce`: no valuation meets them, or a number was outside the limits.
 unfoldable pub Stopped : List Term → (inForce : List Pair) → Stop → Type 0
 Stopped terms inForce contradiction = NoneMeets terms inForce
-Stopped terms inForce (outside why) = Outside (number_of why)
+Stopped terms inForce (outside number) = Outside number
 
 -- What an answer means that a run stops with: no valuation meets the assumptions up to the place, or a number was outside the limits.
 unfoldable pub Ended : List Term → List Pair → Answer → Type 0

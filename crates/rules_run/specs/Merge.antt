@@ -1,9 +1,10 @@
 -- Merging two terms: the difference of their rows, the unknown it solves, and the fold into every row.
--- Main definitions: `State`, `Stop`, `pivot`, `solved_column`, `folded_column`, `merge`. Assumes nothing.
+-- Main definitions: `State`, `Stop`, `refused_for`, `pivot`, `solved_column`, `folded_column`, `merge`. Assumes nothing.
 use Rattle.std.specs.Prelude.{cond, ℕ, zero, suc, length, eqb, ltb}
 use Rattle.std.proofs.Math.Option.{Option, some, none}
 use Rattle.fraction.specs.Exact.{ℚ, zero_ℚ, neg_ℚ, eq_ℚ}
 use Rattle.fraction.specs.Limits.{plus, minus, times, over}
+use Rattle.answer.specs.Refusals.{number_of}
 use Rattle.answer.specs.declared.Reason.{Reason}
 use Rattle.fraction.specs.Made.{Made, made, stopped, ◌>>=◌, tab, because}
 use Rattle.rules_run.specs.Row.{Row, Table, TERMS, constant, column, row_of, row}
@@ -13,10 +14,14 @@ pub record State : Type 0 where
   pub table : Table
   pub solved : ℕ
 
--- Why a merge stops the run: no reading is left, or a number outside the limits with its reason.
+-- Why a merge stops the run: no reading is left, or a number outside the limits with its refusal's number.
 pub data Stop : Type 0 where
   contradiction : Stop
-  outside : (why : Reason) → Stop
+  outside : (number : ℕ) → Stop
+
+-- a step of a merge that is refused stops it with the number of its reason
+abbrev pub refused_for : (why : Reason) → Stop
+refused_for why = outside (number_of why)
 
 -- 01, Merge: "take the difference of the two rows"
 unfoldable pub difference : Row → Row → Made Reason Row
@@ -54,10 +59,10 @@ solve p d state =
 -- "All zero: nothing. Only the constant nonzero: contradictory, stop. Otherwise the highest-numbered term (..) is solved"
 unfoldable pub settle : (d : Row) → State → Option ℕ → Made Stop State
 settle d state none = cond (eq_ℚ (column d constant) zero_ℚ) (made state) (stopped contradiction)
-settle d state (some p) = because outside (solve p d state)
+settle d state (some p) = because refused_for (solve p d state)
 
 -- "The difference row is tested before it is looked at for contradiction."
 unfoldable pub merge : (rank : ℕ → ℕ) → (t u : ℕ) → State → Made Stop State
 merge rank t u state =
-    because outside (difference (row_of state.table t) (row_of state.table u)) >>= λ d.
+    because refused_for (difference (row_of state.table t) (row_of state.table u)) >>= λ d.
     settle d state (pivot rank TERMS d)

@@ -1,7 +1,6 @@
 -- The run: build, close, then each assumption in file order.
 -- Main definitions: `Ranking`, `by_number`, `highest_number`, `run`, `judged`. Assumes nothing.
 use Rattle.std.specs.Prelude.{cond, List, [], ◌∷◌, ℕ, suc}
-use Rattle.answer.specs.Refusals.{number_of}
 use Rattle.answer.specs.declared.Answer.{Answer}
 use Rattle.answer.specs.declared.Answer.TheVariants.{Entailed, NotEntailed, Contradictory, Refused}
 use Rattle.fraction.specs.Made.{Made, made, ◌>>=◌, because}
@@ -9,7 +8,7 @@ use Rattle.rules_problem.specs.declared.Term.{Term}
 use Rattle.rules_problem.specs.Problem.{Pair, Problem}
 use Rattle.rules_run.specs.Row.{same_row}
 use Rattle.rules_run.specs.Build.{built}
-use Rattle.rules_run.specs.Merge.{State, Stop, contradiction, outside, merge}
+use Rattle.rules_run.specs.Merge.{State, Stop, contradiction, outside, refused_for, merge}
 use Rattle.rules_run.specs.Close.{close}
 
 -- Which unknown a merge solves: for the terms of a problem the rank of each column, of which the highest is solved. Only the terms
@@ -28,7 +27,7 @@ highest_number terms = by_number
 -- what a run that stops at an assumption answers: 01, What comes back, the places of contradictory and 7
 unfoldable pub ends : (place : ℕ) → Stop → Answer
 ends place contradiction = Contradictory place
-ends place (outside why) = Refused (number_of why) place
+ends place (outside number) = Refused number place
 
 -- 01, The run, 3: "For each assumption in file order: merge its sides, then close."
 unfoldable pub assume : (rank : ℕ → ℕ) → List Term → (place : ℕ) → List Pair → State → Made Answer State
@@ -40,7 +39,7 @@ assume rank terms place (pair ∷ pairs) state =
 unfoldable pub begin : (rank : ℕ → ℕ) → List Term → Made Answer State
 begin rank terms =
     because (ends 0)
-    (because outside (built terms []) >>= λ table. close rank terms (record { table = table; solved = 0 }))
+    (because refused_for (built terms []) >>= λ table. close rank terms (record { table = table; solved = 0 }))
 
 unfoldable pub run : Ranking → Problem → Made Answer State
 run ranking problem =

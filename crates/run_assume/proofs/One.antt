@@ -64,7 +64,7 @@ module _ {n left right solved : ℕ} {heads inputs : List ℕ} {old mid : Work} 
     where
       stopped_so : (halt : Halt) (terms : List Term) → merged (Err halt) solved (table_of n mid) >>= rule.close by_number terms ≡ closed (Err halt) (table_of n mid)
       stopped_so Contradiction terms = refl
-      stopped_so (Refused why) terms = refl
+      stopped_so (Refused number) terms = refl
 
 -- A stop gets its place.
 pub assumes_placed : {n left right solved place : ℕ} {heads inputs : List ℕ} {old new : Work} {c : Result ℕ Halt} {r : Result ℕ Answer} → MergesCloses n left right solved heads inputs c old new → Places place c (solved + EACH) r → Assumes n place left right solved heads inputs r old new

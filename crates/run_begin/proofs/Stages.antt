@@ -19,7 +19,7 @@ use Rattle.rules_problem.specs.declared.Term.{Term}
 use Rattle.rules_problem.specs.Problem.{Problem, decoded}
 use Rattle.rules_run.specs.Row.{TERMS, Table}
 use Rattle.rules_run.specs.Build.{built}
-use Rattle.rules_run.specs.Merge.{State, outside}
+use Rattle.rules_run.specs.Merge.{State, refused_for}
 use Rattle.rules_run.specs.Close.{close}
 use Rattle.rules_run.specs.Run.{by_number, ends, begin}
 use Rattle.run_table.specs.Step.{Step}
@@ -54,7 +54,7 @@ build_refused (Err why) {built} {refusal} stops is =
 module _ (rank : ℕ → ℕ) (terms : List Term) where
   -- what is left once the build has ended
   after : Made Reason Table → Made Answer State
-  after rows = because (ends 0) (because outside rows >>= λ table. close rank terms (record { table = table; solved = 0 }))
+  after rows = because (ends 0) (because refused_for rows >>= λ table. close rank terms (record { table = table; solved = 0 }))
 
   -- Where a row is refused, the run has ended at place 0.
   begin_refused : {why : Reason} → built terms [] ≡ stopped why → begin rank terms ≡ stopped (Refused (number_of why) 0)

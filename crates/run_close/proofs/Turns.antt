@@ -198,7 +198,7 @@ module _ {n solved : ℕ} {heads inputs : List ℕ} {old : Work} {count turns : 
             where
               stopped_so : (halt : Halt) (terms : List Term) → merged (Err halt) count (table_of n new) >>= close_for (n + 1 - (turns + 1)) by_number terms ≡ closed (Err halt) (table_of n new)
               stopped_so Contradiction terms = refl
-              stopped_so (Refused why) terms = refl
+              stopped_so (Refused number) terms = refl
 
           -- A merge that stops ends closing, whatever it stops with, and after another the loop goes on.
           pub closing_stops : {halt : Halt} → answer ≡ Err halt → Closes n solved heads inputs (Err halt) old new

@@ -21,13 +21,13 @@ use Rattle.run_close.proofs.close.Reads.{Pre, Post}
 closed_of : Made Stop State → Result ℕ Halt
 closed_of (made state) = Ok state.solved
 closed_of (stopped contradiction) = Err Contradiction
-closed_of (stopped (outside why)) = Err (Refused why)
+closed_of (stopped (outside number)) = Err (Refused number)
 
 closed_back : (r : Result ℕ Halt) (table : Table) → closed_of (closed r table) ≡ r
 unfolding closed closed_of
 closed_back (Ok solved) table = refl
 closed_back (Err Contradiction) table = refl
-closed_back (Err (Refused why)) table = refl
+closed_back (Err (Refused number)) table = refl
 
 -- equal answers that go on leave equal tables
 table_back : (r : Result ℕ Halt) {P : Type 0} (table table' : Table) → closed r table ≡ closed r table' → (table ≡ table' → P) → OnOk r P

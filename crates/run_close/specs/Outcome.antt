@@ -11,4 +11,4 @@ use Rattle.rules_run.specs.Merge.{State, Stop, contradiction, outside}
 unfoldable pub closed : Result ℕ Halt → Table → Made Stop State
 closed (Ok solved) table = made (record { table = table; solved = solved })
 closed (Err Contradiction) table = stopped contradiction
-closed (Err (Refused why)) table = stopped (outside why)
+closed (Err (Refused number)) table = stopped (outside number)

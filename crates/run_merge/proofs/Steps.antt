@@ -1,6 +1,7 @@
 -- A merge, step by step: what each step asks of the one before it, what its answer makes of the rule's, and what it leaves.
 -- Main results: `solve_folds`, `form_refused`, `fold_refused`, `fold_made`; `settle_solves`, `settles_nothing`, `settles_contradiction`,
 -- `settles_solved`; `zeros_within`, `merge_subtracts`, `merge_settles`, `difference_refused`, `difference_made`. Assume nothing.
+use Rattle.answer.specs.Refusals.{number_of}
 use Rattle.answer.specs.declared.Reason.{Reason}
 use Rattle.std.specs.Prelude.{Err, None, Ok, Option, Result, Some, IsErrAnd}
 use Rattle.std.proofs.Common.{add-one}
@@ -87,15 +88,15 @@ module _ {n p set : ℕ} {nums dens : List ℤ} {w : Work} (asked : Solvable n p
 
   -- The form is refused; or it is made, and the fold is refused; or both are made.
   pub form_refused : {why : Reason} {nums' dens' : List ℤ} {r : Result ℕ Halt} → Forms p set (Err why) (both nums dens) (both nums' dens')
-      → IsErrAnd r (λ halt. halt ≡ Refused why) → Solves n p (row_at nums dens 0) r w w
+      → IsErrAnd r (λ halt. halt ≡ Refused (number_of why)) → Solves n p (row_at nums dens 0) r w w
   unfolding solve because merged ◌>>=◌
   form_refused {why} {nums'} {dens'} {r} forms stops =
       let form = stepped_refused (row_at nums' dens' 0) forms.row_made.ends refl in
       let q = err_from_is_err_and r stops in
-      rw (q.1, q.2) (record { answers = λ solved. rw form; left = stopped_itself asked.settleable.rows (Refused why) })
+      rw (q.1, q.2) (record { answers = λ solved. rw form; left = stopped_itself asked.settleable.rows (Refused (number_of why)) })
 
   module _ {nums' dens' : List ℤ} {new : Work} (forms : Forms p set (Ok tt) (both nums dens) (both nums' dens')) where
-    pub fold_refused : {why : Reason} {r : Result ℕ Halt} → Folds n p (both nums' dens') (Err why) w new → IsErrAnd r (λ halt. halt ≡ Refused why)
+    pub fold_refused : {why : Reason} {r : Result ℕ Halt} → Folds n p (both nums' dens') (Err why) w new → IsErrAnd r (λ halt. halt ≡ Refused (number_of why))
         → Solves n p (row_at nums dens 0) r w new
     unfolding solve because merged ◌>>=◌
     fold_refused {why} {r} folds stops =
@@ -208,13 +209,13 @@ module _ {n t u : ℕ} {w : Work} (asked : Mergeable n t u w) where
   -- The difference is refused; or it is made, and settled.
   module _ {set preferred : ℕ} {nums₀ dens₀ nums dens : List ℤ} where
     pub difference_refused : {why : Reason} {r : Result ℕ Halt}
-        → Subtracts (COLUMNS * t) (COLUMNS * u) set (Err why) (both w.nums w.dens) (both nums₀ dens₀) (both nums dens) → IsErrAnd r (λ halt. halt ≡ Refused why)
+        → Subtracts (COLUMNS * t) (COLUMNS * u) set (Err why) (both w.nums w.dens) (both nums₀ dens₀) (both nums dens) → IsErrAnd r (λ halt. halt ≡ Refused (number_of why))
         → Merges n t u preferred r w w
     unfolding merge merged because ◌>>=◌
     difference_refused {why} {r} subtracts stops =
         let none = difference_read ∙ stepped_refused (row_at nums dens 0) subtracts.row_made.ends refl in
         let q = err_from_is_err_and r stops in
-        rw (q.1, q.2) (record { answers = λ solved. rw none; left = stopped_itself asked.rows (Refused why) })
+        rw (q.1, q.2) (record { answers = λ solved. rw none; left = stopped_itself asked.rows (Refused (number_of why)) })
 
     pub difference_made : {r : Result ℕ Halt} {new : Work}
         → Subtracts (COLUMNS * t) (COLUMNS * u) set (Ok tt) (both w.nums w.dens) (both nums₀ dens₀) (both nums dens)

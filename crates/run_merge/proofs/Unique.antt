@@ -24,13 +24,13 @@ use Rattle.run_merge.proofs.merge.Reads.{Post}
 merged_of : Made Stop State → Result ℕ Halt
 merged_of (made state) = Ok state.solved
 merged_of (stopped contradiction) = Err Contradiction
-merged_of (stopped (outside why)) = Err (Refused why)
+merged_of (stopped (outside number)) = Err (Refused number)
 
 merged_back : (r : Result ℕ Halt) (table : Table) → merged_of (merged r 0 table) ≡ r
 unfolding merged merged_of
 merged_back (Ok more) table = ap Ok (zero-add more)
 merged_back (Err Contradiction) table = refl
-merged_back (Err (Refused why)) table = refl
+merged_back (Err (Refused number)) table = refl
 
 -- equal answers that do not stop leave equal tables, each with what is said of it
 table_back : (r : Result ℕ Halt) {P Q R : Type 0} (table table' : Table) → merged r 0 table ≡ merged r 0 table' → OnOk r P → OnOk r Q

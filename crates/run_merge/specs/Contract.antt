@@ -3,7 +3,7 @@
 use Rattle.std.specs.Prelude.{◌≡◌, ℕ, ◌*◌, ◌<◌, ◌≤◌, length, IfOk, OnOk, Result}
 use Rattle.fraction.specs.Made.{because}
 use Rattle.rules_run.specs.Row.{Row, TERMS, COLUMNS}
-use Rattle.rules_run.specs.Merge.{State, outside, pivot, solve, settle, merge}
+use Rattle.rules_run.specs.Merge.{State, refused_for, pivot, solve, settle, merge}
 use Rattle.run_pivot.specs.Contract.{preferring}
 use Rattle.run_table.specs.Held.{SoundTo}
 use Rattle.run_table.specs.Lists.{Lists, RowWithin, Unknown}
@@ -48,7 +48,7 @@ state_of n w solved = record { table = table_of n w; solved = solved }
 
 -- The answer and the table are those of the rule, however many unknowns were solved before: the unknown p solved from the difference d,
 pub record Solves (n p : ℕ) (d : Row) (r : Result ℕ Halt) (old new : Work) : Type 0 where
-  pub answers : (solved : ℕ) → because outside (solve p d (state_of n old solved)) ≡ merged r solved (table_of n new)
+  pub answers : (solved : ℕ) → because refused_for (solve p d (state_of n old solved)) ≡ merged r solved (table_of n new)
   pub left : Left n r old new
 
 -- the difference settled,

@@ -11,4 +11,4 @@ use Rattle.run_merge.specs.declared.Halt.TheVariants.{Contradiction, Refused}
 unfoldable pub merged : Result ℕ Halt → (solved : ℕ) → Table → Made Stop State
 merged (Ok more) solved table = made (record { table = table; solved = solved + more })
 merged (Err Contradiction) solved table = stopped contradiction
-merged (Err (Refused why)) solved table = stopped (outside why)
+merged (Err (Refused number)) solved table = stopped (outside number)

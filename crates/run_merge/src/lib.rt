@@ -4,6 +4,7 @@
 ghost use Rattle.std.specs.Prelude.{◌≡◌};
 ghost use Rattle.run_table.specs.Lists.{both, row_in};
 ghost use Rattle.run_table.specs.Work.{work};
+ghost use Rattle.answer.specs.Refusals.{number_of};
 ghost use Rattle.run_merge.specs.declared.Halt.TheVariants.{Refused};
 ghost use Rattle.run_merge.specs.Contract.{Mergeable, Settleable, Solvable, Solves, Settles, Merges};
 
@@ -17,14 +18,14 @@ pub const NONE: u64 = 0;
 #[derive(Clone, Copy, Debug, PartialEq, Eq)]
 pub enum Halt {
     Contradiction,
-    Refused(Reason),
+    Refused(u8),
 }
 
 impl From<Reason> for Halt {
-    ghost from_gives = { λ why halt. halt ≡ Refused why };
+    ghost from_gives = { λ why halt. halt ≡ Refused (number_of why) };
 
     fn from(why: Reason) -> Halt {
-        Halt::Refused(why)
+        Halt::Refused(why.number())
     }
 }
 

@@ -1,10 +1,8 @@
 -- What holds while closing or the run goes on.
 -- Main results: `placed_ends`, `when_going`, `open_going`. Assume nothing.
 use Rattle.std.specs.Prelude.{Err, Ok, Result, IfOk, OnOk}
-use Rattle.answer.specs.Refusals.{number_of}
 use Rattle.answer.specs.declared.Answer.{Answer}
 use Rattle.answer.specs.declared.Answer.TheVariants.{Contradictory, Refused as Answered}
-use Rattle.answer.specs.declared.Reason.{Reason}
 use Rattle.run_merge.specs.declared.Halt.{Halt}
 use Rattle.run_merge.specs.declared.Halt.TheVariants.{Contradiction, Refused}
 use mathlib.Core.Path.{◌≡◌, refl}
@@ -18,11 +16,11 @@ use Rattle.run_progress.specs.Ran.{ran, Places}
 
 -- A count goes on, and a stop ends the run with its answer.
 pub placed_ends : {place most : ℕ} (closing : Result ℕ Halt) {r : Result ℕ Answer} → IfOk closing (λ count. count ≤ most) → ((count : ℕ) → closing ≡ Ok count → r ≡ Ok count)
-    → (closing ≡ Err Contradiction → r ≡ Err (Contradictory place)) → ((why : Reason) → closing ≡ Err (Refused why) → r ≡ Err (Answered (number_of why) place)) → Places place closing most r
+    → (closing ≡ Err Contradiction → r ≡ Err (Contradictory place)) → ((number : ℕ) → closing ≡ Err (Refused number) → r ≡ Err (Answered number place)) → Places place closing most r
 unfolding because ends closed ran
 placed_ends (Ok count) few goes_on contradicts refuses = rw (goes_on count refl) (record { answers = λ table. refl; counted = few })
 placed_ends (Err Contradiction) few goes_on contradicts refuses = rw (contradicts refl) (record { answers = λ table. refl; counted = tt })
-placed_ends (Err (Refused why)) few goes_on contradicts refuses = rw (refuses why refl) (record { answers = λ table. refl; counted = tt })
+placed_ends (Err (Refused number)) few goes_on contradicts refuses = rw (refuses number refl) (record { answers = λ table. refl; counted = tt })
 
 -- What holds where the run goes on with a count holds while it goes on.
 pub when_going : {holds : Type 0} (r : Result ℕ Answer) → ((count : ℕ) → r ≡ Ok count → holds) → OnOk r holds
@@ -38,4 +36,4 @@ open_going holds {place} {closing} {r = r} places = by closing r (places.answers
     by closing (Err answer) placed held = tt
     by (Ok solved) (Ok count) placed held = held
     by (Err Contradiction) (Ok count) placed held = absurd (stopped_not_made placed)
-    by (Err (Refused why)) (Ok count) placed held = absurd (stopped_not_made placed)
+    by (Err (Refused number)) (Ok count) placed held = absurd (stopped_not_made placed)

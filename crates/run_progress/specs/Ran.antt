@@ -3,7 +3,6 @@
 use Rattle.run_merge.specs.declared.Halt.{Halt}
 use Rattle.run_merge.specs.declared.Halt.TheVariants.{Contradiction, Refused as Halted}
 use Rattle.std.specs.Prelude.{◌≡◌, List, ℕ, ◌≤◌, Err, Ok, Result, IfOk}
-use Rattle.answer.specs.Refusals.{number_of}
 use Rattle.answer.specs.declared.Answer.{Answer}
 use Rattle.answer.specs.declared.Answer.TheVariants.{Contradictory, Refused}
 use Rattle.fraction.specs.Made.{Made, made, stopped, because}
@@ -32,7 +31,7 @@ pub record Prepared (bytes : List ℕ) (n : ℕ) (heads inputs : List ℕ) (w : 
 -- what a stop at an assumption answers
 unfoldable pub ended : (place : ℕ) → Halt → Answer
 ended place Contradiction = Contradictory place
-ended place (Halted why) = Refused (number_of why) place
+ended place (Halted number) = Refused number place
 
 -- What `placed` ensures: a stop has its place.
 pub record Places (place : ℕ) (closing : Result ℕ Halt) (most : ℕ) (r : Result ℕ Answer) : Type 0 where

@@ -4,7 +4,7 @@
 ghost use Rattle.std.specs.Prelude.{◌≡◌, ◌≤◌, IfOk};
 ghost use Rattle.run_progress.specs.Ran.{ended, Places};
 
-use answer::{Answer, Refusal};
+use answer::Answer;
 use run_merge::Halt;
 
 // What a stop at an assumption answers.
@@ -14,7 +14,7 @@ fn ended(place: usize, halt: Halt) -> Answer
 {
     match halt {
         Halt::Contradiction => Answer::Contradictory { place },
-        Halt::Refused(reason) => Refusal { reason, place }.into(),
+        Halt::Refused(number) => Answer::Refused { number, place },
     }
 }
 

@@ -6,4 +6,4 @@ use Rattle.run_progress.proofs.placed.Goals as goal
 
 pub returns : goal.returns
 unfolding ended
-returns c = placed_ends c.args.closing c.requires (λ count is. grind arith) (λ is. grind arith) (λ why is. grind arith)
+returns c = placed_ends c.args.closing c.requires (λ count is. grind arith) (λ is. grind arith) (λ number is. grind arith)

@@ -11,11 +11,11 @@ returns-in_err-map_err c =
     let (why, is, same) = build_refused c.build-built.result placed c.in_err-map_err.was in
     rw (p.1, p.2, same) (begins_refused c.requires c.build-built.ensures is)
 
+pub returns : goal.returns
+returns c = begins_closed c.requires c.build-built.ensures (build_done c.build-built.result c.map_err.ensures.variant c.in_ok-map_err.was) c.close-closed.ensures c.placed.ensures
+
 pub close-closed-requires : goal.close-closed-requires
 close-closed-requires c = begin_closable c.requires c.build-built.ensures (build_done c.build-built.result c.map_err.ensures.variant c.in_ok-map_err.was)
 
 pub placed-requires : goal.placed-requires
 placed-requires c = begin_counted c.requires c.build-built.ensures (build_done c.build-built.result c.map_err.ensures.variant c.in_ok-map_err.was) c.close-closed.ensures
-
-pub returns : goal.returns
-returns c = begins_closed c.requires c.build-built.ensures (build_done c.build-built.result c.map_err.ensures.variant c.in_ok-map_err.was) c.close-closed.ensures c.placed.ensures

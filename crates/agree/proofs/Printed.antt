@@ -140,10 +140,9 @@ module _ {bytes : List ℕ} {lent left : Lent} {answer : Answer} {before text : 
   calls_list = rw reached refl
 
   -- and the bytes before its end are the rules' listing.
-  pub calls_print : {end : ℕ} → r ≡ Ok end → Prints bytes text end
+  pub calls_print : Prints bytes text (place_of r)
   unfolding put listed_by place_of lines
-  calls_print {end} is =
-      let both : ◌≡◌ {A = Result ℕ Refusal} (Ok end) (Ok (0 + length lines)) = sym is ∙ reached in
-      let same : end ≡ 0 + length lines = cc in
+  calls_print =
+      let end : place_of r ≡ 0 + length lines = ap place_of reached in
       let written : text ≡ put_at 0 lines before = ap (λ l. l.buffer) put_so in
-      record { within = rw is at lists.within; printed = rw (same, written) (take_put lines before) }
+      record { within = lists.within; printed = rw (end, written) (take_put lines before) }
